@@ -1,0 +1,14 @@
+pub mod Bytes
+pub mod Given
+pub mod Records
+pub mod Reasons
+pub mod Faults
+pub mod Number
+pub mod Pieces
+pub mod White
+pub mod Words
+pub mod Utf8
+pub mod Rules
+pub mod Lines
+pub mod Came
+pub mod Editions
