@@ -7,6 +7,7 @@ pub mod Next
 pub mod Turns
 pub mod Joins
 pub mod Newer
+pub mod Walks
 pub mod Closes
 pub mod Made
 pub mod Parts

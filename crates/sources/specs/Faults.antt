@@ -20,6 +20,16 @@ refused reason line = record { reason = reason; line = line; field = 0 }
 abbrev pub faultFor : NumberFault → Fault
 faultFor Unreadable = fault Figure
 
+-- A number, or the fault of a kind.
+abbrev pub asFault : {X : Type 0} → Result X NumberFault → Result X Fault
+asFault {X} (Ok v) = Ok v
+asFault {X} (Err f) = Err (faultFor f)
+
+-- One step, and then the next where it came out.
+abbrev pub andThen : {X Y E : Type 0} → Result X E → (X → Result Y E) → Result Y E
+andThen {X} {Y} {E} (Ok x) f = f x
+andThen {X} {Y} {E} (Err e) f = Err e
+
 abbrev pub located : ℕ → Fault → Refusal
 located line f = record { reason = f .reason; line = line; field = f .field }
 

@@ -17,6 +17,15 @@ cut c (x ∷ xs) = cond (eqb x c) (Some ([], xs)) (mapped (λ p. (x ∷ p .0, p 
 abbrev pub cutAt : ℕ → List ℕ → Option (List ℕ × List ℕ)
 cutAt c bs = cond (ltb c 128) (cut c bs) None
 
+-- A value by cases on an option.
+abbrev pub caseOf : {X Y : Type 0} → Option X → Y → (X → Y) → Y
+caseOf None n s = n
+caseOf (Some x) n s = s x
+
+-- The part before the first character c, or all.
+abbrev pub upTo : ℕ → List ℕ → List ℕ
+upTo c bs = caseOf (cutAt c bs) bs (λ p. p .0)
+
 -- Two borrowed texts, by their bytes.
 abbrev pub bytesOf2 : RefT (List ℕ) × RefT (List ℕ) → List ℕ × List ℕ
 bytesOf2 p = (p .0 .now, p .1 .now)

@@ -1,6 +1,6 @@
 ghost use mathlib.Core.Path.{_≡_};
 ghost use Rattle.std.specs.Options.{mapped};
-ghost use Rattle.sources.specs.Pieces.{bytesOf, bytesOf2, cutAt, past as pastOf, shorn as shornOf};
+ghost use Rattle.sources.specs.Pieces.{bytesOf, bytesOf2, cutAt, past as pastOf, shorn as shornOf, upTo as upToOf};
 ghost use Rattle.sources.specs.White.{trim as trimOf, trimStart as trimStartOf};
 
 // What stands before the first `at`, an ASCII character, and what stands after it.
@@ -11,6 +11,16 @@ pub fn cut(text: &str, at: char) -> Option<(&str, &str)>
         return None;
     }
     text.split_once(at)
+}
+
+// The part before the first `at`, or all.
+pub fn up_to(text: &str, at: char) -> &str
+    ensures { λ r. ⌜ now r ≡ upToOf at (now (text .entry)) ⌝ }
+{
+    match cut(text, at) {
+        Some((front, _)) => front,
+        None => text,
+    }
 }
 
 // The text without white space around it.

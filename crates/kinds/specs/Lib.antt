@@ -1,0 +1,4 @@
+pub mod Perms
+pub mod Path
+pub mod Mapping
+pub mod Attribute

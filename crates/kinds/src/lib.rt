@@ -1,0 +1,4 @@
+pub mod attribute;
+pub mod mapping;
+pub mod path;
+pub mod perms;
