@@ -1,0 +1,230 @@
+ghost use mathlib.Core.Path.{_≡_, refl, _∙_};
+ghost use mathlib.Core.Bool.{Bool, true, false};
+ghost use mathlib.Core.List.{List};
+ghost use Prim.Native.Nat.{ℕ, _+_};
+ghost use Rattle.kinds.specs.Measure.{fresh, next, faultOf, measureRules, hasBegun, isForeign, sumOf, setTo};
+ghost use Rattle.kinds.specs.MeasureLaws.{refusal-stays, foreign-aside, begins-with-mapping};
+ghost use Rattle.kinds.specs.Sums.{Measures, Same-in-editions, Adds-over-joins};
+ghost use Rattle.kinds.specs.declared.measure.State.{State as Standing};
+ghost use Rattle.sources.specs.Lines.{reading};
+use crate::sort::Key;
+use crate::sort::Sort;
+use crate::sort::sort_of;
+use sources::drive::read;
+use sources::fault::Fault;
+use sources::fault::Refusal;
+use sources::kind::Break;
+use sources::kind::Close;
+use sources::kind::Kind;
+use sources::reason::Reason;
+use sources::source::Source;
+
+// The most that one total may be, 2 to the 56th.
+const CAP: u64 = 72057594037927936;
+
+// One figure for each of the keys, in bytes.
+#[derive(Clone, Copy, PartialEq, Eq, Debug)]
+pub struct Figures {
+    pub rss: u64,
+    pub pss: u64,
+    pub swap_pss: u64,
+}
+
+// Where an open measure stands. In a mapping it has the number of mappings, the totals of those that are closed, and the figures of the one that is open.
+#[derive(Clone, Copy)]
+pub enum State {
+    NoMapping,
+    InMapping(u32, Figures, Figures),
+    Refused(Fault),
+}
+
+// A measure that takes lines.
+#[derive(Drop)]
+pub struct Open {
+    state: State,
+}
+
+// A measure that is done. It is made by closing an open one, and can't be copied.
+#[derive(Drop)]
+pub struct Closed {
+    mappings: u32,
+    totals: Figures,
+}
+
+impl Closed {
+    pub fn mappings(&self) -> u32
+        ensures { λ r. ⌜ r ≡ now (self .entry) .mappings ⌝ }
+    {
+        self.mappings
+    }
+
+    pub fn totals(&self) -> Figures
+        ensures { λ r. ⌜ r ≡ now (self .entry) .totals ⌝ }
+    {
+        self.totals
+    }
+}
+
+// The sum of two figures, where it is at most `cap`.
+fn sum(a: u64, b: u64, cap: u64) -> Option<u64>
+    ensures { λ r. ⌜ r ≡ Rattle.kinds.specs.Measure.within cap (a + b) ⌝ }
+{
+    match a.checked_add(b) {
+        Some(c) if c <= cap => Some(c),
+        _ => None,
+    }
+}
+
+impl Figures {
+    fn none() -> Figures
+        ensures { λ r. ⌜ r ≡ Rattle.kinds.specs.Measure.none ⌝ }
+    {
+        Figures {
+            rss: 0,
+            pss: 0,
+            swap_pss: 0,
+        }
+    }
+
+    // The sums, where each is at most `cap`.
+    fn plus(self, other: Figures, cap: u64) -> Option<Figures>
+        ensures { λ r. ⌜ r ≡ sumOf cap self other ⌝ }
+    {
+        let rss = sum(self.rss, other.rss, cap)?;
+        let pss = sum(self.pss, other.pss, cap)?;
+        let swap_pss = sum(self.swap_pss, other.swap_pss, cap)?;
+        Some(Figures { rss, pss, swap_pss })
+    }
+
+    fn set(self, key: Key, value: u64) -> Figures
+        ensures { λ r. ⌜ r ≡ setTo key value self ⌝ }
+    {
+        let Figures { rss, pss, swap_pss } = self;
+        match key {
+            Key::Rss => Figures {
+                rss: value,
+                pss,
+                swap_pss,
+            },
+            Key::Pss => Figures {
+                rss,
+                pss: value,
+                swap_pss,
+            },
+            Key::SwapPss => Figures {
+                rss,
+                pss,
+                swap_pss: value,
+            },
+        }
+    }
+}
+
+// What a line of a sort makes of a state.
+fn step(state: State, sort: Sort, cap: u64) -> State
+    ensures { λ r. ⌜ r ≡ next cap state sort ⌝ }
+{
+    match (state, sort) {
+        (State::Refused(f), _) => State::Refused(f),
+        (State::NoMapping, Sort::Mapping) => State::InMapping(
+            1,
+            Figures::none(),
+            Figures::none(),
+        ),
+        (State::NoMapping, Sort::BadMapping(f)) => State::Refused(f),
+        (State::NoMapping, _) => State::Refused(Fault::new(Reason::Orphan)),
+        (State::InMapping(n, totals, last), Sort::Mapping) => match totals.plus(last, cap) {
+            Some(t) => State::InMapping(n.saturating_add(1), t, Figures::none()),
+            None => State::Refused(Fault::new(Reason::Heavy)),
+        },
+        (State::InMapping(_, totals, last), Sort::BadMapping(f)) => match totals.plus(last, cap) {
+            Some(_) => State::Refused(f),
+            None => State::Refused(Fault::new(Reason::Heavy)),
+        },
+        (State::InMapping(n, totals, last), Sort::Sets(k, v)) => State::InMapping(
+            n,
+            totals,
+            last.set(k, v),
+        ),
+        (State::InMapping(n, totals, last), Sort::Aside) => State::InMapping(n, totals, last),
+        (State::InMapping(_, _, _), Sort::BadAttribute(f)) => State::Refused(f),
+    }
+}
+
+impl Open {
+    pub fn new() -> Open
+        ensures { λ r. ⌜ r .state ≡ fresh ⌝ }
+    {
+        Open {
+            state: State::NoMapping,
+        }
+    }
+}
+
+pub impl Kind for Open as OpenKind {
+    type Closed = Closed;
+
+    const BREAK: Break = Break::Refuses;
+
+    ghost Meaning = { Standing };
+
+    ghost means = { λ m. m .state };
+
+    ghost rules = { measureRules };
+
+    ghost begun = { hasBegun };
+
+    ghost foreign = { isForeign };
+
+    ghost stays = { refusal-stays };
+
+    ghost aside = { foreign-aside };
+
+    ghost begins = { begins-with-mapping };
+
+    ghost frame = { λ _ _. Unit {0} };
+
+    ghost framed = { λ _. tt };
+
+    ghost still = { λ _ _ _ _ _. tt };
+
+    fn at_break() -> Break {
+        Self::BREAK
+    }
+
+    fn take(&mut self, line: &str) -> Result<(), Fault> {
+        let state = step(self.state, sort_of(line), CAP);
+        self.state = state;
+        match state {
+            State::Refused(f) => Err(f),
+            _ => Ok(()),
+        }
+    }
+}
+
+pub impl Close for Open as OpenClose {
+    fn close(self) -> Result<Closed, Fault> {
+        match self.state {
+            State::Refused(f) => Err(f),
+            State::NoMapping => Ok(Closed {
+                mappings: 0,
+                totals: Figures::none(),
+            }),
+            State::InMapping(mappings, totals, last) => match totals.plus(last, CAP) {
+                Some(totals) => Ok(Closed { mappings, totals }),
+                None => Err(Fault::new(Reason::Heavy)),
+            },
+        }
+    }
+}
+
+// Measures the smaps text of a source.
+pub fn measure<S: Source>(source: &mut S) -> Result<Closed, Refusal>
+    ensures defined { λ r. ⌜ (r, S·Source .rest (now (source .exit))) ≡ reading measureRules (S·Source .broken (now (source .entry))) fresh (S·Source .rest (now (source .entry))) ⌝ }
+    ensures keeps { λ _. ⌜ S·Source .broken (now (source .exit)) ≡ S·Source .broken (now (source .entry)) ⌝ }
+    ensures sums { λ r. ⌜ Measures (S·Source .broken (now (source .entry))) (S·Source .rest (now (source .entry))) r ⌝ }
+    ensures editions { λ r. ⌜ Same-in-editions (S·Source .broken (now (source .entry))) (S·Source .rest (now (source .entry))) r ⌝ }
+    ensures joins { λ r. ⌜ Adds-over-joins (S·Source .broken (now (source .entry))) (S·Source .rest (now (source .entry))) r ⌝ }
+{
+    read(source, Open::new())
+}
