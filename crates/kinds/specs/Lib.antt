@@ -6,3 +6,4 @@ pub mod Sorts
 pub mod Measure
 pub mod MeasureLaws
 pub mod Sums
+pub mod Samples

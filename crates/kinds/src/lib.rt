@@ -4,4 +4,5 @@ pub mod mapping;
 pub mod measure;
 pub mod path;
 pub mod perms;
+pub mod samples;
 pub mod sort;
