@@ -1,5 +1,5 @@
 ghost use mathlib.Core.Path.{_≡_};
-ghost use mathlib.Core.Bool.{Bool};
+ghost use mathlib.Core.Bool.{Bool, true, false};
 ghost use mathlib.Core.List.{List};
 ghost use Prim.Native.Nat.{ℕ, _+_, _<_, _≤_};
 ghost use lib.ListN.{length};
@@ -20,6 +20,14 @@ use std::str::from_utf8;
 // The longest piece of a line, and the longest text.
 const LINE: usize = 4096;
 const TEXT: usize = 268435456;
+
+// Whether `n` bytes more take a text of `size` bytes past the longest.
+fn past_cap(size: usize, n: usize) -> bool
+    requires { ⌜ size ≤ 268435456 ⌝ }
+    ensures { λ r. ⌜ elim r [ true ↦ 268435456 < size + n | false ↦ size + n ≤ 268435456 ] ⌝ }
+{
+    n > TEXT - size
+}
 
 // What a break answers.
 fn broke<K: Kind>(taken: u32) -> Result<u32, Refusal>
@@ -81,13 +89,13 @@ fn lines<S: Source, K: Kind>(source: &mut S, kind: &mut K) -> Result<u32, Refusa
             Next::Broken => return broke::<K>(taken),
             Next::Long => return Err(Refusal::new(Reason::LongLine, taken + 1)),
             Next::Lost(n) => {
-                if n > TEXT - size {
+                if past_cap(size, n) {
                     return Err(Refusal::new(Reason::LongText, taken + 1));
                 }
                 return broke::<K>(taken);
             }
             Next::Line(n) => {
-                if n > TEXT - size {
+                if past_cap(size, n) {
                     return Err(Refusal::new(Reason::LongText, taken + 1));
                 }
                 match from_utf8(&buf[0..n]) {

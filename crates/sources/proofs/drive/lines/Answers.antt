@@ -34,21 +34,21 @@ returns-in-Long g c =
     let i = c .loop-n .inv .0 in
     let r = c .loop-n .inv .3 in record { course = cc; frame = c .loop-n .inv .4; keeps = c .in-Long .ensures tt .keeps ∙ c .loop-n .inv .5 }
 
-pub returns-then-n-size : need.returns-then-n-size
-returns-then-n-size g c =
-    let t = turn-past 268435456 (g .K·Kind .rules) (g .S·Source .broken (c .loop-n .source)) (c .loop-n .taken) (c .loop-n .size) (g .K·Kind .means (c .loop-n .kind)) (c .in-Lost .ensures tt .came .0) (omega arith) in
+pub returns-then-past-cap : need.returns-then-past-cap
+returns-then-past-cap g c =
+    let t = turn-past 268435456 (g .K·Kind .rules) (g .S·Source .broken (c .loop-n .source)) (c .loop-n .taken) (c .loop-n .size) (g .K·Kind .means (c .loop-n .kind)) (c .in-Lost .ensures tt .came .0) (omega (arith, c .if-past-cap .ensures tt)) in
     let i = c .loop-n .inv .0 in
     let r = c .loop-n .inv .3 in record { course = cc; frame = c .loop-n .inv .4; keeps = c .in-Lost .ensures tt .keeps ∙ c .loop-n .inv .5 }
 
 pub returns-in-Lost : need.returns-in-Lost
 returns-in-Lost g c =
-    let t = turn-lost 268435456 (g .K·Kind .rules) (g .S·Source .broken (c .loop-n .source)) (c .loop-n .taken) (c .loop-n .size) (g .K·Kind .means (c .loop-n .kind)) (c .in-Lost .ensures tt .came) (omega arith) in
+    let t = turn-lost 268435456 (g .K·Kind .rules) (g .S·Source .broken (c .loop-n .source)) (c .loop-n .taken) (c .loop-n .size) (g .K·Kind .means (c .loop-n .kind)) (c .in-Lost .ensures tt .came) (omega (arith, c .if-past-cap .ensures tt)) in
     let i = c .loop-n .inv .0 in
     let r = c .loop-n .inv .3 in record { course = cc; frame = c .loop-n .inv .4; keeps = c .in-Lost .ensures tt .keeps ∙ c .loop-n .inv .5 }
 
-pub returns-then-n-size-2 : need.returns-then-n-size-2
-returns-then-n-size-2 g c =
-    let t = turn-past 268435456 (g .K·Kind .rules) (g .S·Source .broken (c .loop-n .source)) (c .loop-n .taken) (c .loop-n .size) (g .K·Kind .means (c .loop-n .kind)) (c .in-Line .ensures tt .came .0) (omega arith) in
+pub returns-then-past-cap-2 : need.returns-then-past-cap-2
+returns-then-past-cap-2 g c =
+    let t = turn-past 268435456 (g .K·Kind .rules) (g .S·Source .broken (c .loop-n .source)) (c .loop-n .taken) (c .loop-n .size) (g .K·Kind .means (c .loop-n .kind)) (c .in-Line .ensures tt .came .0) (omega (arith, c .if-past-cap-2 .ensures tt)) in
     let i = c .loop-n .inv .0 in
     let r = c .loop-n .inv .3 in record { course = cc; frame = c .loop-n .inv .4; keeps = c .in-Line .ensures tt .keeps ∙ c .loop-n .inv .5 }
 
@@ -56,7 +56,7 @@ pub returns-in-Err : need.returns-in-Err
 returns-in-Err g c =
     let y : c .in-Line .n - 0 ≡ c .in-Line .n = omega arith in
     let q : take (c .in-Line .n - 0) (c .next-line .last .buf) ≡ take (c .in-Line .n) (g .S·Source .rest (c .loop-n .source)) = ap (λ (k : ℕ). take k (c .next-line .last .buf)) y ∙ c .in-Line .ensures tt .came .0 .front in
-    let t = turn-text 268435456 (g .K·Kind .rules) (g .S·Source .broken (c .loop-n .source)) (c .loop-n .taken) (c .loop-n .size) (g .K·Kind .means (c .loop-n .kind)) (c .in-Line .ensures tt .came) (omega arith) (text-false (take (c .in-Line .n) (g .S·Source .rest (c .loop-n .source))) (λ u. c .in-Err .ensures tt .cases .0 (subst Utf8 (sym q) u))) in
+    let t = turn-text 268435456 (g .K·Kind .rules) (g .S·Source .broken (c .loop-n .source)) (c .loop-n .taken) (c .loop-n .size) (g .K·Kind .means (c .loop-n .kind)) (c .in-Line .ensures tt .came) (omega (arith, c .if-past-cap-2 .ensures tt)) (text-false (take (c .in-Line .n) (g .S·Source .rest (c .loop-n .source))) (λ u. c .in-Err .ensures tt .cases .0 (subst Utf8 (sym q) u))) in
     let i = c .loop-n .inv .0 in
     let r = c .loop-n .inv .3 in record { course = cc; frame = c .loop-n .inv .4; keeps = c .in-Line .ensures tt .keeps ∙ c .loop-n .inv .5 }
 
@@ -65,7 +65,7 @@ returns-in-Break-at-line g c =
     let p = err-from-errBy (c .from-residual .result) (c .from-residual .ensures .1) in
     let y : c .in-Line .n - 0 ≡ c .in-Line .n = omega arith in
     let q : take (c .in-Line .n - 0) (c .next-line .last .buf) ≡ take (c .in-Line .n) (g .S·Source .rest (c .loop-n .source)) = ap (λ (k : ℕ). take k (c .next-line .last .buf)) y ∙ c .in-Line .ensures tt .came .0 .front in
-    let t = turn-stopped 268435456 (g .K·Kind .rules) (g .S·Source .broken (c .loop-n .source)) (c .loop-n .taken) (c .loop-n .size) (g .K·Kind .means (c .loop-n .kind)) (c .in-Line .ensures tt .came) (omega arith) (text-true (take (c .in-Line .n) (g .S·Source .rest (c .loop-n .source))) (subst Utf8 q (c .in-Ok .ensures tt .cases .1)))
+    let t = turn-stopped 268435456 (g .K·Kind .rules) (g .S·Source .broken (c .loop-n .source)) (c .loop-n .taken) (c .loop-n .size) (g .K·Kind .means (c .loop-n .kind)) (c .in-Line .ensures tt .came) (omega (arith, c .if-past-cap-2 .ensures tt)) (text-true (take (c .in-Line .n) (g .S·Source .rest (c .loop-n .source))) (subst Utf8 q (c .in-Ok .ensures tt .cases .1)))
     (g .K·Kind .means (c .take .last .self)) (c .in-Ok .line .now) (c .take .result) (c .at-line .result) (c .in-Ok .ensures tt .cases .0 ∙ q) (c .take .ensures .next) (c .take .ensures .verdict) (c .at-line .ensures) (c .in-Break-at-line .field-0 .0) (c .in-Break-at-line .was tt) in
     let i = c .loop-n .inv .0 in
     let r = c .loop-n .inv .3 in
@@ -79,10 +79,10 @@ pub loop-n-again : need.loop-n-again
 loop-n-again g c =
     let y : c .in-Line .n - 0 ≡ c .in-Line .n = omega arith in
     let q : take (c .in-Line .n - 0) (c .next-line .last .buf) ≡ take (c .in-Line .n) (g .S·Source .rest (c .loop-n .source)) = ap (λ (k : ℕ). take k (c .next-line .last .buf)) y ∙ c .in-Line .ensures tt .came .0 .front in
-    let t = turn-went 268435456 (g .K·Kind .rules) (g .S·Source .broken (c .loop-n .source)) (c .loop-n .taken) (c .loop-n .size) (g .K·Kind .means (c .loop-n .kind)) (c .in-Line .ensures tt .came) (omega arith) (text-true (take (c .in-Line .n) (g .S·Source .rest (c .loop-n .source))) (subst Utf8 q (c .in-Ok .ensures tt .cases .1)))
+    let t = turn-went 268435456 (g .K·Kind .rules) (g .S·Source .broken (c .loop-n .source)) (c .loop-n .taken) (c .loop-n .size) (g .K·Kind .means (c .loop-n .kind)) (c .in-Line .ensures tt .came) (omega (arith, c .if-past-cap-2 .ensures tt)) (text-true (take (c .in-Line .n) (g .S·Source .rest (c .loop-n .source))) (subst Utf8 q (c .in-Ok .ensures tt .cases .1)))
     (g .K·Kind .means (c .take .last .self)) (c .in-Ok .line .now) (c .take .result) (c .at-line .result) (c .in-Ok .ensures tt .cases .0 ∙ q) (c .take .ensures .next) (c .take .ensures .verdict) (c .at-line .ensures) (c .in-Continue-at-line .field-0) (c .in-Continue-at-line .was tt) in
     let i = c .loop-n .inv .0 in
     let r = c .loop-n .inv .3 in
     let k = c .in-Line .ensures tt .keeps in
     let l = c .in-Line .ensures tt .came .0 in
-    (cc, omega (arith, l .some), omega arith, omega arith, g .K·Kind .still (c .args .kind .now) (c .loop-n .kind) (c .take .last .self) (c .loop-n .inv .4) (c .take .ensures .frame), k ∙ c .loop-n .inv .5)
+    (cc, omega (arith, l .some), omega (arith, c .if-past-cap-2 .ensures tt), omega arith, g .K·Kind .still (c .args .kind .now) (c .loop-n .kind) (c .take .last .self) (c .loop-n .inv .4) (c .take .ensures .frame), k ∙ c .loop-n .inv .5)
