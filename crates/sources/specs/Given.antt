@@ -1,3 +1,4 @@
+-- What one call of `piece` does: what it answers, what it moves, and what it leaves.
 use Prim.Native.Nat.{ℕ}
 use mathlib.Core.Bool.{Bool, true, false, cond}
 use mathlib.Core.List.{List, [], _∷_, _++_}
