@@ -27,7 +27,10 @@ pub impl fmt::Display for Report as ReportDisplay {
                 let rss = totals.rss;
                 let pss = totals.pss;
                 let swap_pss = totals.swap_pss;
-                write!(f, "mappings {mappings} rss {rss} pss {pss} swappss {swap_pss}")
+                write!(
+                    f,
+                    "mappings {mappings} rss {rss} pss {pss} swappss {swap_pss}"
+                )
             }
             Report::Refused(number, line) => write!(f, "refused {number} line {line}"),
         }
@@ -44,5 +47,38 @@ pub fn charge(input: &[u8]) -> Report
     match measure(&mut Held::new(input)) {
         Ok(closed) => Report::Measured(closed.mappings(), closed.totals()),
         Err(refusal) => Report::Refused(refusal.reason.number(), refusal.line),
+    }
+}
+
+#[cfg(test)]
+mod tests {
+    use super::*;
+    use std::alloc::AllocError;
+    use std::alloc::Global;
+    use std::test::*;
+
+    // The line that is printed of an input of `n` bytes 65, and then `end`.
+    fn printed(heap: Global, n: usize, end: &[u8]) -> Result<String, AllocError> {
+        let mut input = Vec::new(heap);
+        for _ in 0..n {
+            input.push(b'A')?;
+        }
+        input.extend_from_slice(end)?;
+        charge(input.as_slice()).to_string(heap)
+    }
+
+    #[test]
+    fn lines(rt: LibcRuntime) -> Result<(), Fail> {
+        let heap = rt.alloc();
+        check_eq(
+            printed(heap, 0, b"")?.as_str(),
+            "mappings 0 rss 0 pss 0 swappss 0",
+        )?;
+        check_eq(
+            printed(heap, 1, b"000-B000 r--p 00000000 08:01 77 /a")?.as_str(),
+            "refused 4 line 1",
+        )?;
+        check_eq(printed(heap, 65536, b"")?.as_str(), "refused 2 line 1")?;
+        check_eq(printed(heap, 65537, b"")?.as_str(), "refused 3 line 0")
     }
 }

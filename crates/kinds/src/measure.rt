@@ -126,11 +126,7 @@ fn step(state: State, sort: Sort, cap: u64) -> State
 {
     match (state, sort) {
         (State::Refused(f), _) => State::Refused(f),
-        (State::NoMapping, Sort::Mapping) => State::InMapping(
-            1,
-            Figures::none(),
-            Figures::none(),
-        ),
+        (State::NoMapping, Sort::Mapping) => State::InMapping(1, Figures::none(), Figures::none()),
         (State::NoMapping, Sort::BadMapping(f)) => State::Refused(f),
         (State::NoMapping, _) => State::Refused(Fault::new(Reason::Orphan)),
         (State::InMapping(n, totals, last), Sort::Mapping) => match totals.plus(last, cap) {

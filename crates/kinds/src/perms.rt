@@ -9,9 +9,13 @@ pub struct MMPermissions {
 
 impl MMPermissions {
     pub const READ: u8 = 1;
+
     pub const WRITE: u8 = 2;
+
     pub const EXECUTE: u8 = 4;
+
     pub const SHARED: u8 = 8;
+
     pub const PRIVATE: u8 = 16;
 
     // The bit of a letter, and none for another byte.

@@ -23,7 +23,13 @@ mod tests {
                 let t = c.totals();
                 (0, u64::from(c.mappings()), t.rss, t.pss, t.swap_pss)
             }
-            Err(f) => (f.reason.number(), u64::from(f.line), u64::from(f.field), 0, 0),
+            Err(f) => (
+                f.reason.number(),
+                u64::from(f.line),
+                u64::from(f.field),
+                0,
+                0,
+            ),
         }
     }
 

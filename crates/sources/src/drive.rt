@@ -19,6 +19,7 @@ use std::str::from_utf8;
 
 // The longest piece of a line, and the longest text.
 const LINE: usize = 4096;
+
 const TEXT: usize = 268435456;
 
 // Whether `n` bytes more take a text of `size` bytes past the longest.
