@@ -11,7 +11,8 @@ use borrow.Author.Tests.{eq-eqb, ne-eqb, eqb-true, eqb-false}
 use Rattle.std.proofs.shelf.Lists.{drop-append-le, take-append-le, getD-take, drop-all, take-rest, take-at, drop-at, take-all, take-append-drop, drop-drop}
 use Rattle.std.proofs.shelf.Tests.{cases-bool, cases-lt}
 use Rattle.sources.specs.Bytes.{through, moved}
-use Rattle.sources.specs.Given.{Given, answer, ending, joined, either}
+use Rattle.sources.specs.Given.{Given, answer, ending}
+use Rattle.sources.specs.Joined.{joined, either}
 use Rattle.sources.specs.declared.source.Piece.{Piece}
 use Rattle.sources.specs.declared.source.Piece.the-variants.{Bytes, Ended, Broken}
 use Rattle.sources.proofs.Through.{through-≤, through-some}

@@ -10,7 +10,7 @@ use lib.ListN.{length, take, drop, getD, length-drop}
 use borrow.Author.Tests.{eq-eqb, ne-eqb}
 use Rattle.std.proofs.shelf.Lists.{drop-more, drop-all, length-take, length-take-le, take-all, take-take, drop-take, drop-drop, getD-take}
 use Rattle.std.proofs.shelf.Tests.{cases-lt}
-use Rattle.sources.specs.Records.{size, mark, zeros, formed, cut, recordsOf, wellMade, recorded, textOfRecord, textOfRecords, endingOf, toCome, brokenOf, after, going, closing}
+use Rattle.sources.specs.Records.{size, mark, zeros, formed, firsts, recordsOf, wellMade, recorded, textOfRecord, textOfRecords, endingOf, toCome, brokenOf, after, going, last}
 
 pub zeros-at : (xs : List ℕ) (i : ℕ) → i < length xs → (getD xs i 0 ≡ 0 → ⊥) → false ≡ zeros (drop i xs)
 zeros-at xs i h e = sym (ap zeros (drop-more xs i 0 h) ∙ ap (λ (t : Bool). t && zeros (drop (i + 1) xs)) (ne-eqb (getD xs i 0) 0 e))
@@ -28,15 +28,15 @@ whole n h = omega arith
 pub records-first : (xs : List ℕ) → 64 ≤ length xs → recordsOf xs ≡ take 64 xs ∷ recordsOf (drop 64 xs)
 unfolding recordsOf
 records-first xs h =
-    ap (λ (k : ℕ). cut k xs) (whole (length xs) h ∙ ap (λ (k : ℕ). suc (k / 64)) (sym (length-drop 64 xs)))
+    ap (λ (k : ℕ). firsts k xs) (whole (length xs) h ∙ ap (λ (k : ℕ). suc (k / 64)) (sym (length-drop 64 xs)))
 
 pub records-none : (xs : List ℕ) → length xs < 64 → recordsOf xs ≡ []
 unfolding recordsOf
-records-none xs h = let z : length xs / 64 ≡ 0 = omega arith in ap (λ (k : ℕ). cut k xs) z
+records-none xs h = let z : length xs / 64 ≡ 0 = omega arith in ap (λ (k : ℕ). firsts k xs) z
 
 pub records-one : (xs : List ℕ) → length xs ≡ 64 → recordsOf xs ≡ xs ∷ []
 unfolding recordsOf
-records-one xs e = ap (λ (n : ℕ). cut (n / 64) xs) e ∙ ap (λ (l : List ℕ). l ∷ []) (take-all 64 xs (omega arith))
+records-one xs e = ap (λ (n : ℕ). firsts (n / 64) xs) e ∙ ap (λ (l : List ℕ). l ∷ []) (take-all 64 xs (omega arith))
 
 pub records-two : (xs : List ℕ) → 128 ≤ length xs → (r : List ℕ) × (rs : List (List ℕ)) × (recordsOf (drop 64 xs) ≡ r ∷ rs)
 records-two xs h = (take 64 (drop 64 xs), recordsOf (drop 64 (drop 64 xs)), records-first (drop 64 xs) (simp length-drop (omega arith)))
@@ -44,14 +44,14 @@ records-two xs h = (take 64 (drop 64 xs), recordsOf (drop 64 (drop 64 xs)), reco
 pub records-last : (xs : List ℕ) → 64 ≤ length xs → length xs < 128 → recordsOf xs ≡ take 64 xs ∷ []
 records-last xs h k = records-first xs h ∙ ap (λ (rs : List (List ℕ)). take 64 xs ∷ rs) (records-none (drop 64 xs) (simp length-drop (omega arith)))
 
--- no record but the last is closing
+-- no record but the last is last
 pub well-more : (xs : List ℕ) → length xs % 64 ≡ 0 → 64 < length xs → wellMade (recordsOf xs) ≡ going (take 64 xs) && wellMade (recordsOf (drop 64 xs))
 well-more xs e h =
     let t = records-two xs (omega arith) in
     ap wellMade (records-first xs (omega arith) ∙ ap (λ (rs : List (List ℕ)). take 64 xs ∷ rs) (t .2))
     ∙ ap (λ (rs : List (List ℕ)). going (take 64 xs) && wellMade rs) (sym (t .2))
 
-pub well-one : (xs : List ℕ) → length xs ≡ 64 → wellMade (recordsOf xs) ≡ closing xs
+pub well-one : (xs : List ℕ) → length xs ≡ 64 → wellMade (recordsOf xs) ≡ last xs
 well-one xs e = ap wellMade (records-one xs e)
 
 pub well-none : (xs : List ℕ) → length xs < 64 → wellMade (recordsOf xs) ≡ false

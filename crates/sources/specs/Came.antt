@@ -19,6 +19,7 @@ pub record Lined (room : ℕ) (bytes : List ℕ) (n : ℕ) (buf′ bytes′ : Li
   pub front : take n buf′ ≡ take n bytes
   pub left : bytes′ ≡ drop n bytes
 
+-- What each answer of `next_line` says: `buf′` and `bytes′` are the buffer and the bytes to come after it.
 abbrev pub Came : ℕ → List ℕ → Bool → Next → List ℕ → List ℕ → Type 0
 Came room bytes broken (Line n) buf′ bytes′ = Lined room bytes n buf′ bytes′ × (lost broken (take n bytes) ≡ false)
 Came room bytes broken (Lost n) buf′ bytes′ = Lined room bytes n buf′ bytes′ × (broken ≡ true) × (ended (take n bytes) ≡ false)

@@ -17,6 +17,7 @@ fault reason = record { reason = reason; field = 0 }
 abbrev pub refused : Reason → ℕ → Refusal
 refused reason line = record { reason = reason; line = line; field = 0 }
 
+-- What a kind makes of a bad number.
 abbrev pub faultFor : NumberFault → Fault
 faultFor Unreadable = fault Figure
 
@@ -30,6 +31,7 @@ abbrev pub andThen : {X Y E : Type 0} → Result X E → (X → Result Y E) → 
 andThen {X} {Y} {E} (Ok x) f = f x
 andThen {X} {Y} {E} (Err e) f = Err e
 
+-- A fault gains the number of its line.
 abbrev pub located : ℕ → Fault → Refusal
 located line f = record { reason = f .reason; line = line; field = f .field }
 

@@ -24,13 +24,3 @@ pub record Given (buf bytes : List ℕ) (broken : Bool) (r : Piece) (buf′ byte
   pub moves : bytes′ ≡ drop (moved (length buf) bytes) bytes
   pub fills : buf′ ≡ take (moved (length buf) bytes) bytes ++ drop (moved (length buf) bytes) buf
   pub keeps : broken′ ≡ broken
-
--- The bytes of a join: a broken first ends it.
-abbrev pub joined : Bool → List ℕ → List ℕ → List ℕ
-joined true a b = a
-joined false a b = a ++ b
-
--- Whether a join is broken.
-abbrev pub either : Bool → Bool → Bool
-either true u = true
-either false u = u

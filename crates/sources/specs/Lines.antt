@@ -17,6 +17,13 @@ use Rattle.sources.specs.Faults.{refused, located, atLine}
 use Rattle.sources.specs.Rules.{Rules}
 use Rattle.sources.specs.Utf8.{isUtf8}
 
+-- The longest piece of a line, and the longest text.
+abbrev pub maxLine : ℕ
+maxLine = 4096
+
+abbrev pub maxText : ℕ
+maxText = 268435456
+
 -- A byte put before the first line.
 abbrev pub ahead : ℕ → List (List ℕ) → List (List ℕ)
 ahead b [] = (b ∷ []) ∷ []
@@ -61,6 +68,7 @@ ending onBreak broken taken = cond broken (broke onBreak taken) (Ok taken)
 abbrev pub Outcome : Type 0 → Type 0
 Outcome M = Result ℕ Refusal × M × List ℕ
 
+-- A line that the kind refused ends the course; after any other it goes on.
 abbrev pub onFault : {M : Type 0} → Option Fault → ℕ → M → List ℕ → Outcome M → Outcome M
 onFault {M} None line m left go = go
 onFault {M} (Some f) line m left go = (Err (located line f), m, left)
@@ -82,7 +90,7 @@ walk {M} {C} room most R broken taken size m (l ∷ ls) =
 
 -- The course over a text.
 unfoldable pub course : {M C : Type 0} → Rules M C → Bool → M → List ℕ → Outcome M
-course {M} {C} R broken m text = walk 4096 268435456 R broken 0 0 m (linesOf text)
+course {M} {C} R broken m text = walk maxLine maxText R broken 0 0 m (linesOf text)
 
 -- The kind is closed where the course is not refused.
 abbrev pub closing : {M C : Type 0} → Rules M C → Result ℕ Refusal → M → Result C Refusal

@@ -28,24 +28,25 @@ abbrev pub formed : List ℕ → Bool
 formed r = leb (size r) 62 && zeros (drop (2 + size r) r)
 
 -- The first k records.
-abbrev pub cut : ℕ → List ℕ → List (List ℕ)
-cut zero r = []
-cut (suc k) r = take 64 r ∷ cut k (drop 64 r)
+abbrev pub firsts : ℕ → List ℕ → List (List ℕ)
+firsts zero r = []
+firsts (suc k) r = take 64 r ∷ firsts k (drop 64 r)
 
 unfoldable pub recordsOf : List ℕ → List (List ℕ)
-recordsOf r = cut (length r / 64) r
+recordsOf r = firsts (length r / 64) r
 
--- A record that others follow, and the last.
+-- A record that others follow.
 abbrev pub going : List ℕ → Bool
 going r = formed r && eqb (mark r) 0
 
-abbrev pub closing : List ℕ → Bool
-closing r = formed r && (eqb (mark r) 1 || eqb (mark r) 2)
+-- The last record.
+abbrev pub last : List ℕ → Bool
+last r = formed r && (eqb (mark r) 1 || eqb (mark r) 2)
 
 -- There is at least one record, and the last alone has 1 or 2.
 abbrev pub wellMade : List (List ℕ) → Bool
 wellMade [] = false
-wellMade (r ∷ []) = closing r
+wellMade (r ∷ []) = last r
 wellMade (r ∷ s ∷ rs) = going r && wellMade (s ∷ rs)
 
 abbrev pub textOfRecords : List (List ℕ) → List ℕ

@@ -2,7 +2,7 @@
 use Prim.Native.Nat.{ℕ}
 use mathlib.Core.Path.{_≡_}
 use mathlib.Core.Bool.{Bool, true}
-use mathlib.Core.List.{List, [], _∷_}
+use mathlib.Core.List.{List}
 use Rattle.std.specs.declared.option.Option.{Option}
 use Rattle.std.specs.declared.option.Option.the-variants.{Some, None}
 use Rattle.std.specs.declared.result.Result.{Result}
@@ -33,8 +33,3 @@ Foreign-is-aside {M} {C} R begun foreign = (m : M) (line : List ℕ) → begun m
 -- A kind has begun once it has accepted a line.
 abbrev pub Begins-with-a-line : {M C : Type 0} → Rules M C → (M → Bool) → Type 0
 Begins-with-a-line {M} {C} R begun = (m : M) (line : List ℕ) → R .refused (R .next m line) ≡ None → begun (R .next m line) ≡ true
-
--- A kind's meaning, folded over lines.
-unfoldable pub folded : {M : Type 0} → (M → List ℕ → M) → M → List (List ℕ) → M
-folded {M} next m [] = m
-folded {M} next m (l ∷ ls) = folded next (next m l) ls

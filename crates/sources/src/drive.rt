@@ -18,16 +18,16 @@ use crate::source::Source;
 use std::str::from_utf8;
 
 // The longest piece of a line, and the longest text.
-const LINE: usize = 4096;
+const MAX_LINE: usize = 4096;
 
-const TEXT: usize = 268435456;
+const MAX_TEXT: usize = 268435456;
 
 // Whether `n` bytes more take a text of `size` bytes past the longest.
 fn past_cap(size: usize, n: usize) -> bool
     requires { ⌜ size ≤ 268435456 ⌝ }
     ensures { λ r. ⌜ elim r [ true ↦ 268435456 < size + n | false ↦ size + n ≤ 268435456 ] ⌝ }
 {
-    n > TEXT - size
+    n > MAX_TEXT - size
 }
 
 // What a break answers.
@@ -41,11 +41,14 @@ fn broke<K: Kind>(taken: u32) -> Result<u32, Refusal>
     }
 }
 
-// The next line: so many bytes of it, the same lost before a break, one too long, or the ending.
+// What comes next.
 #[derive(Clone, Copy)]
 enum Next {
+    // a line of so many bytes
     Line(usize),
+    // as many bytes, without byte 10 before a broken ending
     Lost(usize),
+    // a piece that fills the buffer, without byte 10
     Long,
     Ended,
     Broken,
@@ -81,7 +84,7 @@ fn lines<S: Source, K: Kind>(source: &mut S, kind: &mut K) -> Result<u32, Refusa
     ensures frame { λ _. ⌜ K·Kind .frame (now (kind .entry)) (now (kind .exit)) ⌝ }
     ensures keeps { λ _. ⌜ S·Source .broken (now (source .exit)) ≡ S·Source .broken (now (source .entry)) ⌝ }
 {
-    let mut buf = [0u8; LINE];
+    let mut buf = [0u8; MAX_LINE];
     let mut taken: u32 = 0;
     let mut size: usize = 0;
     loop {

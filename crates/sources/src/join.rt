@@ -1,6 +1,7 @@
 ghost use mathlib.Core.Path.{_≡_};
 ghost use denote.Ref.{now};
-ghost use Rattle.sources.specs.Given.{Given, joined, either};
+ghost use Rattle.sources.specs.Given.{Given};
+ghost use Rattle.sources.specs.Joined.{joined, either};
 use crate::source::Piece;
 use crate::source::Source;
 

@@ -13,7 +13,7 @@ pub enum Break {
     Ends,
 }
 
-// What reads the lines of a text: it takes them one by one, and is closed then. It means its rules folded over the lines.
+// What reads the lines of a text: it takes them one by one, and is closed then. Its rules say what each line makes of its meaning.
 pub trait Kind: Sized {
     type Closed;
 
@@ -31,6 +31,7 @@ pub trait Kind: Sized {
     // Which lines are foreign.
     ghost foreign: { List ℕ → Bool };
 
+    // The laws that the rules keep.
     ghost stays: { Refusal-stays rules };
 
     ghost aside: { Foreign-is-aside rules begun foreign };
@@ -40,6 +41,7 @@ pub trait Kind: Sized {
     // What a kind that writes to lent memory keeps: which memory it is.
     ghost frame: { Self → Self → Type 0 };
 
+    // It is the same before any line, and after one more.
     ghost framed: { (a : Self) → frame a a };
 
     ghost still: { (a b c : Self) → frame a b → frame b c → frame a c };

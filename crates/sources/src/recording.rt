@@ -1,7 +1,8 @@
 ghost use mathlib.Core.Path.{_≡_};
 ghost use lib.ListN.{length};
-ghost use Rattle.sources.specs.Records.{recorded, formed as «formed-of», zeros as «zeros-of», going as «going-of», closing as «closing-of»};
+ghost use Rattle.sources.specs.Records.{recorded, formed as «formed-of», zeros as «zeros-of», going as «going-of», last as «last-of»};
 
+// Whether every byte is 0.
 fn zeros(bytes: &[u8]) -> bool
     ensures { λ r. ⌜ r ≡ «zeros-of» (now (bytes .entry)) ⌝ }
 {
@@ -15,28 +16,29 @@ fn zeros(bytes: &[u8]) -> bool
     true
 }
 
-fn formed(entry: &[u8]) -> bool
-    requires { ⌜ length (now entry) ≡ 64 ⌝ }
-    ensures { λ r. ⌜ r ≡ «formed-of» (now (entry .entry)) ⌝ }
+// Whether a record has at most 62 text bytes, and zeros behind them.
+fn formed(one: &[u8]) -> bool
+    requires { ⌜ length (now one) ≡ 64 ⌝ }
+    ensures { λ r. ⌜ r ≡ «formed-of» (now (one .entry)) ⌝ }
 {
-    let n = entry[0] as usize;
-    n <= 62 && zeros(&entry[2 + n..])
+    let n = one[0] as usize;
+    n <= 62 && zeros(&one[2 + n..])
 }
 
 // A record that others follow.
-fn going(entry: &[u8]) -> bool
-    requires { ⌜ length (now entry) ≡ 64 ⌝ }
-    ensures { λ r. ⌜ r ≡ «going-of» (now (entry .entry)) ⌝ }
+fn going(one: &[u8]) -> bool
+    requires { ⌜ length (now one) ≡ 64 ⌝ }
+    ensures { λ r. ⌜ r ≡ «going-of» (now (one .entry)) ⌝ }
 {
-    formed(entry) && entry[1] == 0
+    formed(one) && one[1] == 0
 }
 
 // The last record.
-fn closing(entry: &[u8]) -> bool
-    requires { ⌜ length (now entry) ≡ 64 ⌝ }
-    ensures { λ r. ⌜ r ≡ «closing-of» (now (entry .entry)) ⌝ }
+fn last(one: &[u8]) -> bool
+    requires { ⌜ length (now one) ≡ 64 ⌝ }
+    ensures { λ r. ⌜ r ≡ «last-of» (now (one .entry)) ⌝ }
 {
-    formed(entry) && (entry[1] == 1 || entry[1] == 2)
+    formed(one) && (one[1] == 1 || one[1] == 2)
 }
 
 // Whether bytes are a recording.
@@ -57,5 +59,5 @@ pub fn well_made(recording: &[u8]) -> bool
     if left.len() < 64 {
         return false;
     }
-    closing(left)
+    last(left)
 }

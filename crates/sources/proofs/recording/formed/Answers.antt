@@ -9,4 +9,4 @@ use Rattle.sources.specs.Records.{zeros}
 use Rattle.sources.proofs.recording.formed.Needs as need
 
 pub returns-then-n-le62 : need.returns-then-n-le62
-returns-then-n-le62 c = c .zeros .ensures ∙ ap zeros (take-rest (c .args .entry .now) (2 + getD (c .args .entry .now) 0 0)) ∙ sym (ap (λ (t : Bool). t && zeros (drop (2 + getD (c .args .entry .now) 0 0) (c .args .entry .now))) (le-leb (getD (c .args .entry .now) 0 0) 62 (c .if-n-le62 .taken)))
+returns-then-n-le62 c = c .zeros .ensures ∙ ap zeros (take-rest (c .args .one .now) (2 + getD (c .args .one .now) 0 0)) ∙ sym (ap (λ (t : Bool). t && zeros (drop (2 + getD (c .args .one .now) 0 0) (c .args .one .now))) (le-leb (getD (c .args .one .now) 0 0) 62 (c .if-n-le62 .taken)))

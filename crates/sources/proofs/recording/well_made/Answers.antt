@@ -23,4 +23,4 @@ pub returns-then-left-lt64 : need.returns-then-left-lt64
 returns-then-left-lt64 c = sym (recorded-whole (c .args .recording .now) (omega arith) ∙ sym (c .loop-left .inv .0) ∙ well-none (c .loop-left .left .now) (omega arith))
 
 pub returns : need.returns
-returns c = c .closing .ensures ∙ sym (recorded-whole (c .args .recording .now) (omega arith) ∙ sym (c .loop-left .inv .0) ∙ well-one (c .loop-left .left .now) (omega arith))
+returns c = c .last .ensures ∙ sym (recorded-whole (c .args .recording .now) (omega arith) ∙ sym (c .loop-left .inv .0) ∙ well-one (c .loop-left .left .now) (omega arith))
