@@ -16,7 +16,7 @@ use Rattle.kinds.specs.declared.sort.Key.the-variants.{Rss, Pss, SwapPss}
 use Rattle.kinds.specs.declared.measure.Closed.{Closed}
 use Rattle.kinds.specs.Sorts.{sortOf}
 use Rattle.kinds.specs.Measure.{measureRules, fresh}
-use Rattle.kinds.specs.Sums.{opens, sound, body, mappingsOf, lastOf, sumOver, total, figure, orderly, starts, closedOf, Measured, Measures, Keeps, both, whole, Joins-add}
+use Rattle.kinds.specs.Sums.{opens, sound, body, mappingsOf, lastOf, sumOver, total, figure, orderly, starts, closedOf, Measured, Measures, Keeps, both, whole}
 use Rattle.kinds.proofs.Steps.{by-key}
 use Rattle.kinds.proofs.Measures.{reading-measures, closed-is, good-parts}
 
@@ -84,6 +84,11 @@ pub figure-closed : (k : Key) (ls : List (List ℕ)) (c : Closed) → c ≡ clos
 figure-closed Rss ls c e = ap (λ (x : Closed). x .totals .rss) e
 figure-closed Pss ls c e = ap (λ (x : Closed). x .totals .pss) e
 figure-closed SwapPss ls c e = ap (λ (x : Closed). x .totals .«swap_pss») e
+
+-- Where two texts are measured, the first empty or ending in byte 10, their join is measured exactly when that keeps the caps, and then all figures add.
+abbrev pub Joins-add : Type 0
+Joins-add = (t u : List ℕ) (c d : Closed) → whole t ≡ true → reading measureRules false fresh t .0 ≡ Ok c → reading measureRules false fresh u .0 ≡ Ok d →
+    ((e : Closed) → reading measureRules false fresh (t ++ u) .0 ≡ Ok e → Keeps t u c d × (e ≡ both c d)) × (Keeps t u c d → reading measureRules false fresh (t ++ u) .0 ≡ Ok (both c d))
 
 pub joins-add : Joins-add
 joins-add t u c d w e f =

@@ -5,5 +5,6 @@ pub mod Attribute
 pub mod Sorts
 pub mod Measure
 pub mod MeasureLaws
+pub mod Measured
 pub mod Sums
 pub mod Samples

@@ -48,6 +48,7 @@ told code.Anonymous = anonymous
 told (code.Vsys z) = vsys z
 told (code.Other x) = other (x .now)
 
+-- The same of a reading that may be refused.
 abbrev pub seen : Result MMapPath Fault → Result Named Fault
 seen (Ok p) = Ok (told p)
 seen (Err e) = Err e
@@ -81,6 +82,7 @@ namedOf name bs =
     (caseOf (bracketed name) (caseOf (keyOf name) (Ok (path (fileOf bs))) (λ z. Ok (vsys z))) (λ n. Ok (other n)))
     threadOf
 
+-- A name, of the path `bs`.
 abbrev pub nameOf : List ℕ → List ℕ → Result Named Fault
 nameOf name bs =
     cond (sameBytes name []) (Ok anonymous)

@@ -18,17 +18,21 @@ use Rattle.kinds.specs.declared.sort.Sort.the-variants as sort
 use Rattle.kinds.specs.Attribute.{entryOf, Entry}
 use Rattle.kinds.specs.Mapping.{mappingOf, Mapping}
 
+-- A mapping line, read well or not.
 abbrev pub headOf : Result Mapping Fault → Sort
 headOf (Ok m) = sort.Mapping
 headOf (Err f) = sort.BadMapping f
 
+-- The measured key of a name.
 abbrev pub keyOf : List ℕ → Option Key
 keyOf k = cond (sameBytes k (codes "Rss")) (Some Rss) (cond (sameBytes k (codes "Pss")) (Some Pss) (cond (sameBytes k (codes "SwapPss")) (Some SwapPss) None))
 
+-- An attribute that sets a measured key, or none.
 abbrev pub setOf : Option Key → ℕ → Sort
 setOf None n = sort.Aside
 setOf (Some k) n = sort.Sets k n
 
+-- An attribute line, read well or not.
 abbrev pub attributeOf : Result (Option Entry) Fault → Sort
 attributeOf (Ok None) = sort.Aside
 attributeOf (Ok (Some e)) = setOf (keyOf (e .key)) (e .amount)

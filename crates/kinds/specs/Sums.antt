@@ -1,12 +1,12 @@
 -- The mappings of a text, what they add up to, and which texts are measured.
 use Prim.Native.Nat.{ℕ, _+_, _≤_}
 use mathlib.Core.Path.{_≡_}
-use mathlib.Core.Bool.{Bool, true, false, cond, not}
+use mathlib.Core.Bool.{Bool, true, false, cond}
 use mathlib.Core.List.{List, [], _∷_, _++_}
 use lib.ListN.{length}
 use Rattle.std.specs.declared.result.Result.{Result}
-use Rattle.std.specs.declared.result.Result.the-variants.{Ok, Err}
-use Rattle.sources.specs.Lines.{linesOf, textOf, long, ended, reading}
+use Rattle.std.specs.declared.result.Result.the-variants.{Ok}
+use Rattle.sources.specs.Lines.{linesOf, textOf, long, ended, reading, maxLine, maxText}
 use Rattle.sources.specs.Utf8.{isUtf8}
 use Rattle.sources.specs.declared.fault.Refusal.{Refusal}
 use Rattle.kinds.specs.declared.sort.Key.{Key}
@@ -16,7 +16,7 @@ use Rattle.kinds.specs.declared.sort.Sort.the-variants.{Mapping, BadMapping, S
 use Rattle.kinds.specs.declared.measure.Figures.{Figures}
 use Rattle.kinds.specs.declared.measure.Closed.{Closed}
 use Rattle.kinds.specs.Sorts.{sortOf}
-use Rattle.kinds.specs.Measure.{fresh, measureRules, isForeign}
+use Rattle.kinds.specs.Measure.{fresh, maxTotal, measureRules, hasBegun, isForeign}
 use Rattle.sources.specs.Editions.{Edition, Same}
 
 -- Whether a line opens a mapping.
@@ -45,6 +45,7 @@ unfoldable pub mappingsOf : List (List ℕ) → List (List (List ℕ))
 mappingsOf [] = []
 mappingsOf (l ∷ ls) = cond (opens (sortOf l)) (body ls ∷ mappingsOf ls) (mappingsOf ls)
 
+-- Whether two keys are the same.
 abbrev pub same : Key → Key → Bool
 same Rss Rss = true
 same Rss Pss = false
@@ -74,19 +75,21 @@ unfoldable pub sumOver : Key → List (List (List ℕ)) → ℕ
 sumOver k [] = 0
 sumOver k (g ∷ gs) = lastOf k 0 g + sumOver k gs
 
+-- The sum over the mappings of a text.
 abbrev pub total : Key → List (List ℕ) → ℕ
 total k ls = sumOver k (mappingsOf ls)
 
 -- Whether all lines are UTF-8, none too long, and each good.
 unfoldable pub orderly : List (List ℕ) → Bool
 orderly [] = true
-orderly (l ∷ ls) = cond (long 4096 l) false (cond (isUtf8 l) (cond (sound (sortOf l)) (orderly ls) false) false)
+orderly (l ∷ ls) = cond (long maxLine l) false (cond (isUtf8 l) (cond (sound (sortOf l)) (orderly ls) false) false)
 
 -- Whether the first line, if any, opens a mapping.
 abbrev pub starts : List (List ℕ) → Bool
 starts [] = true
 starts (l ∷ ls) = opens (sortOf l)
 
+-- What the mappings of a text come to.
 abbrev pub closedOf : List (List ℕ) → Closed
 closedOf ls = record { mappings = length (mappingsOf ls); totals = record { rss = total Rss ls; pss = total Pss ls; «swap_pss» = total SwapPss ls } }
 
@@ -100,8 +103,9 @@ pub record Measured (cap most : ℕ) (ls : List (List ℕ)) (c : Closed) : Type 
 
 -- What is measured, and as what: the totals are the sums over the mappings.
 abbrev pub Measures : Bool → List ℕ → Result Closed Refusal → Type 0
-Measures broken text r = (c : Closed) → (r ≡ Ok c → (broken ≡ false) × Measured 72057594037927936 268435456 (linesOf text) c) × ((broken ≡ false) × Measured 72057594037927936 268435456 (linesOf text) c → r ≡ Ok c)
+Measures broken text r = (c : Closed) → (r ≡ Ok c → (broken ≡ false) × Measured maxTotal maxText (linesOf text) c) × ((broken ≡ false) × Measured maxTotal maxText (linesOf text) c → r ≡ Ok c)
 
+-- The figure of a key.
 abbrev pub figure : Key → Figures → ℕ
 figure Rss f = f .rss
 figure Pss f = f .pss
@@ -109,24 +113,21 @@ figure SwapPss f = f .«swap_pss»
 
 -- The join of two texts keeps the caps.
 pub record Keeps (t u : List ℕ) (c d : Closed) : Type 0 where
-  pub fits : length t + length u ≤ 268435456
-  pub light : (k : Key) → figure k (c .totals) + figure k (d .totals) ≤ 72057594037927936
+  pub fits : length t + length u ≤ maxText
+  pub light : (k : Key) → figure k (c .totals) + figure k (d .totals) ≤ maxTotal
 
+-- Two measures added.
 abbrev pub both : Closed → Closed → Closed
 both c d = record { mappings = c .mappings + d .mappings; totals = record { rss = c .totals .rss + d .totals .rss; pss = c .totals .pss + d .totals .pss; «swap_pss» = c .totals .«swap_pss» + d .totals .«swap_pss» } }
 
+-- Whether a text is empty or ends in byte 10.
 abbrev pub whole : List ℕ → Bool
 whole [] = true
 whole (b ∷ bs) = ended (b ∷ bs)
 
--- Where two texts are measured, the first empty or ending in byte 10, their join is measured exactly when that keeps the caps, and then all figures add.
-abbrev pub Joins-add : Type 0
-Joins-add = (t u : List ℕ) (c d : Closed) → whole t ≡ true → reading measureRules false fresh t .0 ≡ Ok c → reading measureRules false fresh u .0 ≡ Ok d →
-    ((e : Closed) → reading measureRules false fresh (t ++ u) .0 ≡ Ok e → Keeps t u c d × (e ≡ both c d)) × (Keeps t u c d → reading measureRules false fresh (t ++ u) .0 ≡ Ok (both c d))
-
 -- A newer edition of the text, within the cap, gets the same answer.
 abbrev pub Same-in-editions : Bool → List ℕ → Result Closed Refusal → Type 0
-Same-in-editions broken text r = (text′ : List ℕ) → Edition isForeign false (linesOf text) (linesOf text′) → length text′ ≤ 268435456 → Same r (reading measureRules broken fresh text′ .0)
+Same-in-editions broken text r = (text′ : List ℕ) → Edition isForeign (hasBegun fresh) (linesOf text) (linesOf text′) → length text′ ≤ maxText → Same r (reading measureRules broken fresh text′ .0)
 
 -- Where the text is the join of two that are measured, the first empty or ending in byte 10, it is measured exactly when that keeps the caps, and then all figures add.
 abbrev pub Adds-over-joins : Bool → List ℕ → Result Closed Refusal → Type 0

@@ -1,9 +1,8 @@
-ghost use mathlib.Core.Path.{_≡_, refl, _∙_};
-ghost use mathlib.Core.Bool.{Bool, true, false};
-ghost use mathlib.Core.List.{List};
-ghost use Prim.Native.Nat.{ℕ, _+_};
-ghost use Rattle.kinds.specs.Measure.{fresh, next, faultOf, measureRules, hasBegun, isForeign, sumOf, setTo};
+ghost use mathlib.Core.Path.{_≡_};
+ghost use Prim.Native.Nat.{_+_};
+ghost use Rattle.kinds.specs.Measure.{fresh, next, measureRules, hasBegun, isForeign, sumOf, setTo};
 ghost use Rattle.kinds.specs.MeasureLaws.{refusal-stays, foreign-aside, begins-with-mapping};
+ghost use Rattle.kinds.specs.Measured.{recordingOf, joinOf};
 ghost use Rattle.kinds.specs.Sums.{Measures, Same-in-editions, Adds-over-joins};
 ghost use Rattle.kinds.specs.declared.measure.State.{State as Standing};
 ghost use Rattle.sources.specs.Lines.{reading};
@@ -13,11 +12,15 @@ use crate::sort::sort_of;
 use sources::drive::read;
 use sources::fault::Fault;
 use sources::fault::Refusal;
+use sources::join::Join;
+use sources::join::JoinSource;
 use sources::kind::Break;
 use sources::kind::Close;
 use sources::kind::Kind;
 use sources::reason::Reason;
 use sources::source::Source;
+use sources::spool::Spool;
+use sources::spool::SpoolSource;
 
 // The most that one total may be, 2 to the 56th.
 const CAP: u64 = 72057594037927936;
@@ -223,4 +226,20 @@ pub fn measure<S: Source>(source: &mut S) -> Result<Closed, Refusal>
     ensures joins { λ r. ⌜ Adds-over-joins (S·Source .broken (now (source .entry))) (S·Source .rest (now (source .entry))) r ⌝ }
 {
     read(source, Open::new())
+}
+
+// Measures the smaps text of a recording.
+pub fn measure_recording(recording: &[u8]) -> Result<Closed, Refusal>
+    ensures { λ r. ⌜ r ≡ recordingOf (now (recording .entry)) ⌝ }
+{
+    let mut spool = Spool::new(recording)?;
+    measure(&mut spool)
+}
+
+// Measures the smaps text of two sources, one after the other.
+pub fn measure_joined<A: Source + Drop, B: Source + Drop>(first: A, second: B) -> Result<Closed, Refusal>
+    ensures { λ r. ⌜ r ≡ joinOf (A·Source .broken first) (A·Source .rest first) (B·Source .broken second) (B·Source .rest second) ⌝ }
+{
+    let mut both = Join::new(first, second);
+    measure(&mut both)
 }

@@ -8,6 +8,8 @@ pub struct MMPermissions {
 }
 
 impl MMPermissions {
+    pub const NONE: u8 = 0;
+
     pub const READ: u8 = 1;
 
     pub const WRITE: u8 = 2;
@@ -28,7 +30,7 @@ impl MMPermissions {
             b'x' => Self::EXECUTE,
             b's' => Self::SHARED,
             b'p' => Self::PRIVATE,
-            _ => 0,
+            _ => Self::NONE,
         }
     }
 
