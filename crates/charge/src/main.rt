@@ -1,6 +1,9 @@
 // Measures the smaps text on standard input, and prints one line of it.
 mod report;
 
+ghost use Prim.Native.Nat.{_≤_};
+ghost use lib.ListN.{length};
+ghost use Rattle.std.specs.Vec.{made};
 use report::Report;
 use report::ReportDisplay;
 use report::charge;
@@ -12,33 +15,35 @@ use std::io::Read;
 const ROOM: usize = 65537;
 
 // Reads until the end of the input or of the buffer, and answers how many bytes came.
-fn read_all<R: Read>(input: &mut R, buf: &mut [u8]) -> io::Result<usize> {
+fn read_all<R: Read>(input: &mut R, buf: &mut [u8]) -> io::Result<usize>
+    ensures { λ r. ⌜ made r (λ n. n ≤ length (now (buf .exit))) ⌝ }
+{
     let mut len = 0;
     for _ in 0..ROOM {
         if len >= buf.len() {
-            return Ok(len);
+            break;
         }
         let n = input.read(&mut buf[len..])?;
         if n == 0 || n > buf.len() - len {
-            return Ok(len);
+            break;
         }
         len += n;
     }
     Ok(len)
 }
 
-fn run(rt: &LibcRuntime) -> Result<(), AnyError> {
+// Prints the report on standard input.
+fn run(rt: &LibcRuntime) -> Result<Report, AnyError> {
     let mut buf = [0u8; ROOM];
     let len = read_all(&mut rt.stdin(), &mut buf)?;
-    let input = if len < ROOM { &buf[0..len] } else { &buf[..] };
-    let report = charge(input);
+    let report = charge(&buf[0..len]);
     rt.println(&report)?;
-    match report {
-        Report::Measured(_, _) => Ok(()),
-        Report::Refused(_, _) => Err("refused".into()),
-    }
+    Ok(report)
 }
 
 fn main(rt: LibcRuntime) -> Result<(), AnyError> {
-    run(&rt)
+    match rt.report(run(&rt))? {
+        Report::Measured(_, _) => Ok(()),
+        Report::Refused(_, _) => Err("refused".into()),
+    }
 }

@@ -33,11 +33,16 @@ pub struct Figures {
     pub swap_pss: u64,
 }
 
-// Where an open measure stands. In a mapping it has the number of mappings, the totals of those that are closed, and the figures of the one that is open.
+// Where an open measure stands.
 #[derive(Clone, Copy)]
 pub enum State {
     NoMapping,
-    InMapping(u32, Figures, Figures),
+    // how many mappings there are with the open one, the totals of those that are closed, and the figures of the open one
+    InMapping {
+        mappings: u32,
+        totals: Figures,
+        last: Figures,
+    },
     Refused(Fault),
 }
 
@@ -102,22 +107,12 @@ impl Figures {
     fn set(self, key: Key, value: u64) -> Figures
         ensures { λ r. ⌜ r ≡ setTo key value self ⌝ }
     {
-        let Figures { rss, pss, swap_pss } = self;
         match key {
-            Key::Rss => Figures {
-                rss: value,
-                pss,
-                swap_pss,
-            },
-            Key::Pss => Figures {
-                rss,
-                pss: value,
-                swap_pss,
-            },
+            Key::Rss => Figures { rss: value, ..self },
+            Key::Pss => Figures { pss: value, ..self },
             Key::SwapPss => Figures {
-                rss,
-                pss,
                 swap_pss: value,
+                ..self
             },
         }
     }
@@ -129,24 +124,49 @@ fn step(state: State, sort: Sort, cap: u64) -> State
 {
     match (state, sort) {
         (State::Refused(f), _) => State::Refused(f),
-        (State::NoMapping, Sort::Mapping) => State::InMapping(1, Figures::none(), Figures::none()),
+        (State::NoMapping, Sort::Mapping) => State::InMapping {
+            mappings: 1,
+            totals: Figures::none(),
+            last: Figures::none(),
+        },
         (State::NoMapping, Sort::BadMapping(f)) => State::Refused(f),
         (State::NoMapping, _) => State::Refused(Fault::new(Reason::Orphan)),
-        (State::InMapping(n, totals, last), Sort::Mapping) => match totals.plus(last, cap) {
-            Some(t) => State::InMapping(n.saturating_add(1), t, Figures::none()),
+        (
+            State::InMapping {
+                mappings,
+                totals,
+                last,
+            },
+            Sort::Mapping,
+        ) => match totals.plus(last, cap) {
+            Some(totals) => State::InMapping {
+                mappings: mappings.saturating_add(1),
+                totals,
+                last: Figures::none(),
+            },
             None => State::Refused(Fault::new(Reason::Heavy)),
         },
-        (State::InMapping(_, totals, last), Sort::BadMapping(f)) => match totals.plus(last, cap) {
+        (State::InMapping { totals, last, .. }, Sort::BadMapping(f)) => match totals.plus(
+            last,
+            cap,
+        ) {
             Some(_) => State::Refused(f),
             None => State::Refused(Fault::new(Reason::Heavy)),
         },
-        (State::InMapping(n, totals, last), Sort::Sets(k, v)) => State::InMapping(
-            n,
+        (
+            State::InMapping {
+                mappings,
+                totals,
+                last,
+            },
+            Sort::Sets(key, value),
+        ) => State::InMapping {
+            mappings,
             totals,
-            last.set(k, v),
-        ),
-        (State::InMapping(n, totals, last), Sort::Aside) => State::InMapping(n, totals, last),
-        (State::InMapping(_, _, _), Sort::BadAttribute(f)) => State::Refused(f),
+            last: last.set(key, value),
+        },
+        (State::InMapping { .. }, Sort::Aside) => state,
+        (State::InMapping { .. }, Sort::BadAttribute(f)) => State::Refused(f),
     }
 }
 
@@ -209,7 +229,11 @@ pub impl Close for Open as OpenClose {
                 mappings: 0,
                 totals: Figures::none(),
             }),
-            State::InMapping(mappings, totals, last) => match totals.plus(last, CAP) {
+            State::InMapping {
+                mappings,
+                totals,
+                last,
+            } => match totals.plus(last, CAP) {
                 Some(totals) => Ok(Closed { mappings, totals }),
                 None => Err(Fault::new(Reason::Heavy)),
             },
@@ -237,7 +261,10 @@ pub fn measure_recording(recording: &[u8]) -> Result<Closed, Refusal>
 }
 
 // Measures the smaps text of two sources, one after the other.
-pub fn measure_joined<A: Source + Drop, B: Source + Drop>(first: A, second: B) -> Result<Closed, Refusal>
+pub fn measure_joined<A: Source + Drop, B: Source + Drop>(
+    first: A,
+    second: B,
+) -> Result<Closed, Refusal>
     ensures { λ r. ⌜ r ≡ joinOf (A·Source .broken first) (A·Source .rest first) (B·Source .broken second) (B·Source .rest second) ⌝ }
 {
     let mut both = Join::new(first, second);

@@ -75,7 +75,7 @@ pub fn sort_of(line: &str) -> Sort
     if !capital_first(line) {
         return mapping_sort(line);
     }
-    if let Some(_) = past(line, "VmFlags") {
+    if past(line, "VmFlags").is_some() {
         return Sort::Aside;
     }
     attribute_sort(line)

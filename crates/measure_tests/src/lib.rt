@@ -1,8 +1,17 @@
-// Examples of sources; what is expected comes from docs/SOURCES.md.
+// Examples of sources and of mapping lines; what is expected comes from docs/SOURCES.md and docs/SMAPS.md.
 #[cfg(test)]
 mod tests {
+    use kinds::mapping::MemoryMap;
     use kinds::measure::Closed;
     use kinds::measure::measure;
+    use kinds::path::MMapPath;
+    use kinds::path::MMapPathDebug;
+    use kinds::path::MMapPathPartialEq;
+    use kinds::perms::MMPermissions;
+    use kinds::perms::MMPermissionsDebug;
+    use kinds::perms::MMPermissionsPartialEq;
+    use sources::fault::FaultDebug;
+    use sources::fault::FaultPartialEq;
     use sources::fault::Refusal;
     use sources::fault::RefusalDebug;
     use sources::held::Held;
@@ -14,6 +23,7 @@ mod tests {
     use sources::spool::Spool;
     use sources::spool::SpoolSource;
     use std::alloc::AllocError;
+    use std::alloc::Global;
     use std::test::*;
 
     // A measure as numbers: 0 and the figures, or a refusal's number, its line and its field.
@@ -97,7 +107,8 @@ mod tests {
 
     #[test]
     fn bad_records(rt: LibcRuntime) -> Result<(), Fail> {
-        let mut one = Vec::new(rt.alloc());
+        let heap = rt.alloc();
+        let mut one = Vec::new(heap);
         check_eq(spooled(one.as_slice()), (22, 0, 0, 0, 0))?;
         record(&mut one, b"a", 3)?;
         check_eq(spooled(one.as_slice()), (22, 0, 0, 0, 0))?;
@@ -106,12 +117,57 @@ mod tests {
         check_eq(spooled(one.as_slice()), (5, 1, 0, 0, 0))?;
         one.push(0)?;
         check_eq(spooled(one.as_slice()), (22, 0, 0, 0, 0))?;
-        // bytes behind the text that are not zeros, and 63 text bytes
-        one.clear();
-        one.push(0)?;
-        record(&mut one, b"", 0)?;
-        let _ = one.pop();
-        check_eq(spooled(one.as_slice()), (22, 0, 0, 0, 0))
+        // 63 text bytes, and a byte behind the text that is not 0
+        check_eq(spooled(counted(heap, 63)?.as_slice()), (22, 0, 0, 0, 0))?;
+        check_eq(spooled(counted(heap, 62)?.as_slice()), (5, 1, 0, 0, 0))?;
+        check_eq(spooled(counted(heap, 61)?.as_slice()), (22, 0, 0, 0, 0))
+    }
+
+    // A last record that says `n` text bytes, and has a byte 120 everywhere behind them.
+    fn counted(heap: Global, n: u8) -> Result<Vec<u8>, AllocError> {
+        let mut r = Vec::new(heap);
+        r.push(n)?;
+        r.push(1)?;
+        for _ in 0..62 {
+            r.push(120)?;
+        }
+        Ok(r)
+    }
+
+    #[test]
+    fn mapping_lines() -> Result<(), Fail> {
+        let table: [(&str, MMapPath<'static>); 14] = [
+            ("", MMapPath::Anonymous),
+            ("                 /a b ", MMapPath::Path("/a b ")),
+            ("/a (deleted)\n", MMapPath::Path("/a (deleted)")),
+            ("[heap]\n", MMapPath::Heap),
+            ("[stack]", MMapPath::Stack),
+            ("[stack:12:3]", MMapPath::TStack(12)),
+            (" [vdso] ", MMapPath::Vdso),
+            ("[vvar]", MMapPath::Vvar),
+            ("[vsyscall]", MMapPath::Vsyscall),
+            ("[rollup]", MMapPath::Rollup),
+            ("/SYSV0000abCD (deleted)", MMapPath::Vsys(43981)),
+            ("/SYSVfffffffe", MMapPath::Vsys(-2)),
+            ("/SYSV00000000.log", MMapPath::Path("/SYSV00000000.log")),
+            ("[anon:x]", MMapPath::Other("anon:x")),
+        ];
+        for (text, path) in table {
+            check_eq(MMapPath::from(text), Ok(path))?;
+        }
+        let map = MemoryMap::from_line("1000-2fFf rwxsp 30 4:-5 60 /a\n")?;
+        check_eq(map.address, (4096, 12287))?;
+        check_eq(map.perms, MMPermissions { bits: 31 })?;
+        check_eq(
+            MMPermissions::from_letters("-w-p"),
+            MMPermissions { bits: 18 },
+        )?;
+        check_eq(
+            MMPermissions::from_letters("rxs"),
+            MMPermissions { bits: 13 },
+        )?;
+        check_eq((map.offset, map.dev, map.inode), (48, (4, -5), 60))?;
+        check_eq(map.pathname, MMapPath::Path("/a"))
     }
 
     #[test]

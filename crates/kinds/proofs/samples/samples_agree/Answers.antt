@@ -12,7 +12,16 @@ use Rattle.kinds.proofs.samples.samples_agree.Needs as need
 pub returns : need.returns
 unfolding decodes encode linesOf textOf judged walk course reading wellFormed
 returns c = (
-  refl, refl, refl, refl, refl, refl, refl, refl, refl, refl,
+  refl,
+  refl,
+  refl,
+  refl,
+  refl,
+  refl,
+  refl,
+  refl,
+  refl,
+  refl,
   keep false _ _ _ (more _ _ _ (record { strange = refl; closed = refl; short = omega arith; text = refl })
-  (keep true _ _ _ (keep true _ _ _ (keep true _ _ _ (keep true _ _ _ (keep true _ _ _ (more _ _ _ (record { strange = refl; closed = refl; short = omega arith; text = refl }) (over true)))))))),
+      (keep true _ _ _ (keep true _ _ _ (keep true _ _ _ (keep true _ _ _ (keep true _ _ _ (more _ _ _ (record { strange = refl; closed = refl; short = omega arith; text = refl }) (over true)))))))),
 )
