@@ -1,6 +1,7 @@
-//! Writes a sample of smaps texts with procfs-core's answers, for a test to replay without it. One
-//! case a line: the text as base-16 digits, or '-' for the empty one, then "ok" with mappings, Rss, Pss
-//! and SwapPss, or "err" with the class of the refusal. Texts of an intended difference are left out.
+//! Writes a sample of smaps texts with procfs-core's answers, as crates/replay reads it. One case a
+//! line: the text, in which `\\` is a backslash and `\x` with two base-16 digits a byte, a tab, then
+//! "ok" with mappings, Rss, Pss and SwapPss, or the class of the refusal. Texts of an intended
+//! difference are left out.
 //!
 //! Words: FILE; N, the number of cases.
 
@@ -102,14 +103,25 @@ impl Sample {
                 let [rss, pss, swappss] = totals(&maps);
                 format!("ok {} {rss} {pss} {swappss}", maps.len())
             }
-            reference::Answer::Refused { class, .. } => format!("err {}", class.name()),
+            reference::Answer::Refused { class, .. } => class.name().to_string(),
         };
         if self.taken[kind] >= wanted[kind] {
             return;
         }
         self.taken[kind] += 1;
-        let digits: String = text.iter().map(|byte| format!("{byte:02x}")).collect();
-        self.lines += &format!("{} {answer}\n", if text.is_empty() { "-" } else { &digits });
+        self.lines += &format!("{}\t{answer}\n", escaped(&text));
         self.texts.insert(text);
     }
+}
+
+fn escaped(text: &[u8]) -> String {
+    let mut out = String::new();
+    for byte in text {
+        match byte {
+            b'\\' => out += "\\\\",
+            b' '..=b'~' => out.push(char::from(*byte)),
+            _ => out += &format!("\\x{byte:02x}"),
+        }
+    }
+    out
 }
