@@ -1,4 +1,6 @@
 // What C and Rust programs call: numbers and slices alone cross.
+#![tactic(auto)]
+
 ghost use Rattle.std.specs.Prelude.{◌≡◌};
 ghost use Rattle.capi.specs.Cells.{answer_of, cells_of};
 

@@ -1,4 +1,6 @@
 // Measures the smaps text on standard input, and prints one line of it.
+#![tactic(auto)]
+
 mod report;
 
 ghost use Rattle.std.specs.Prelude.{◌≤◌, length, IfOk};

@@ -1,4 +1,6 @@
 // How the text of a field is read: single figures, lists of items, and what a line leaves for the closing to judge.
+#![tactic(auto)]
+
 pub mod counted;
 pub mod filling;
 mod item;

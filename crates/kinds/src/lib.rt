@@ -1,4 +1,6 @@
 // The kernel's texts, a kind each.
+#![tactic(auto)]
+
 pub mod attribute;
 pub mod mapping;
 pub mod measure;

@@ -1,4 +1,6 @@
 // Examples of sources and of mapping lines; what is expected comes from docs/SOURCES.md and docs/SMAPS.md.
+#![tactic(auto)]
+
 #[cfg(test)]
 mod tests {
     use kinds::mapping::MemoryMap;

@@ -4,6 +4,8 @@
 // A line of a list is a text, a tab, and what is expected. Of a measure: `ok MAPPINGS RSS PSS SWAPPSS`, `refused NUMBER LINE`, or the class of error that procfs-core answers.
 // Of a status: `ok` and its fields, in order, or `refused NUMBER LINE FIELD`.
 // In a text `\\` is a backslash, and `\x` with two digits of base 16 is a byte.
+#![tactic(auto)]
+
 mod status;
 mod text;
 

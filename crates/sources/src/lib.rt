@@ -1,4 +1,6 @@
 // Where bytes come from, how they become lines, and the numbers and pieces of text that readers of lines share.
+#![tactic(auto)]
+
 pub mod drive;
 pub mod fault;
 pub mod held;

@@ -1,4 +1,6 @@
 // The record of a process's status: a slot for each field, and how lines fill them.
+#![tactic(auto)]
+
 mod ids;
 pub mod line;
 mod memory;

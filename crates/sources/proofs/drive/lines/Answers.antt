@@ -24,7 +24,7 @@ returns-in-Broken g c =
 
 pub returns-in-Long : goal.returns-in-Long
 returns-in-Long g c =
-    let t = turn_long (length c.loop-n.buf) 268435456 g.K.Kind.rules (g.S.Source.broken c.loop-n.source) c.loop-n.taken c.loop-n.size (g.K.Kind.means c.loop-n.kind) (g.S.Source.rest c.loop-n.source) c.next-line.new.buf (g.S.Source.rest c.next-line.new.source) c.in-Long.ensures.came in
+    let t = turn_long (length c.loop-n.buf) 268435456 g.K.Kind.rules (g.S.Source.broken c.loop-n.source) c.loop-n.taken c.loop-n.size (g.K.Kind.means c.loop-n.kind) (g.S.Source.rest c.loop-n.source) c.next_line.new.buf (g.S.Source.rest c.next_line.new.source) c.in-Long.ensures.came in
     let i = c.loop-n.invariant.0 in
     let r = c.loop-n.invariant.3 in record { course = cc; frame = c.loop-n.invariant.4; keeps = c.in-Long.ensures.keeps ∙ c.loop-n.invariant.5 }
 
@@ -36,7 +36,7 @@ returns-then-past-cap g c =
 
 pub returns-in-Lost : goal.returns-in-Lost
 returns-in-Lost g c =
-    let t = turn_lost 268435456 g.K.Kind.rules (g.S.Source.broken c.loop-n.source) c.loop-n.taken c.loop-n.size (g.K.Kind.means c.loop-n.kind) c.in-Lost.ensures.came (omega (arith, c.if-past-cap.ensures)) in
+    let t = turn_lost 268435456 g.K.Kind.rules (g.S.Source.broken c.loop-n.source) c.loop-n.taken c.loop-n.size (g.K.Kind.means c.loop-n.kind) c.in-Lost.ensures.came (omega (arith, c.if-past_cap.ensures)) in
     let i = c.loop-n.invariant.0 in
     let r = c.loop-n.invariant.3 in record { course = cc; frame = c.loop-n.invariant.4; keeps = c.in-Lost.ensures.keeps ∙ c.loop-n.invariant.5 }
 
@@ -49,8 +49,8 @@ returns-then-past-cap-2 g c =
 pub returns-in-Err : goal.returns-in-Err
 returns-in-Err g c =
     let y : c.in-Line.n - 0 ≡ c.in-Line.n = omega arith in
-    let q : take (c.in-Line.n - 0) c.next-line.new.buf ≡ take c.in-Line.n (g.S.Source.rest c.loop-n.source) = ap (λ (k : ℕ). take k c.next-line.new.buf) y ∙ c.in-Line.ensures.came.0.front in
-    let t = turn_text 268435456 g.K.Kind.rules (g.S.Source.broken c.loop-n.source) c.loop-n.taken c.loop-n.size (g.K.Kind.means c.loop-n.kind) c.in-Line.ensures.came (omega (arith, c.if-past-cap-2.ensures)) (text_false (take c.in-Line.n (g.S.Source.rest c.loop-n.source)) (λ u. c.in-Err.ensures.cases.0 (subst IsUtf8 (sym q) u))) in
+    let q : take (c.in-Line.n - 0) c.next_line.new.buf ≡ take c.in-Line.n (g.S.Source.rest c.loop-n.source) = ap (λ (k : ℕ). take k c.next_line.new.buf) y ∙ c.in-Line.ensures.came.0.front in
+    let t = turn_text 268435456 g.K.Kind.rules (g.S.Source.broken c.loop-n.source) c.loop-n.taken c.loop-n.size (g.K.Kind.means c.loop-n.kind) c.in-Line.ensures.came (omega (arith, c.if-past_cap-2.ensures)) (text_false (take c.in-Line.n (g.S.Source.rest c.loop-n.source)) (λ u. c.in-Err.ensures.cases.0 (subst IsUtf8 (sym q) u))) in
     let i = c.loop-n.invariant.0 in
     let r = c.loop-n.invariant.3 in record { course = cc; frame = c.loop-n.invariant.4; keeps = c.in-Line.ensures.keeps ∙ c.loop-n.invariant.5 }
 
@@ -72,11 +72,11 @@ loop-n-smaller g c = let l = c.in-Line.ensures.came.0 in rw l.left (simp length-
 pub loop-n-preserved : goal.loop-n-preserved
 loop-n-preserved g c =
     let y : c.in-Line.n - 0 ≡ c.in-Line.n = omega arith in
-    let q : take (c.in-Line.n - 0) c.next-line.new.buf ≡ take c.in-Line.n (g.S.Source.rest c.loop-n.source) = ap (λ (k : ℕ). take k c.next-line.new.buf) y ∙ c.in-Line.ensures.came.0.front in
-    let t = turn_went 268435456 g.K.Kind.rules (g.S.Source.broken c.loop-n.source) c.loop-n.taken c.loop-n.size (g.K.Kind.means c.loop-n.kind) c.in-Line.ensures.came (omega (arith, c.if-past-cap-2.ensures)) (text_true (take c.in-Line.n (g.S.Source.rest c.loop-n.source)) (subst IsUtf8 q c.in-Ok.ensures.cases.1))
-    (g.K.Kind.means c.take.new.self) c.in-Ok.line.now c.take.result c.at-line.result (c.in-Ok.ensures.cases.0 ∙ q) c.take.ensures.next c.take.ensures.verdict c.at-line.ensures c.in-ok-at-line.field-0 c.in-ok-at-line.was in
+    let q : take (c.in-Line.n - 0) c.next_line.new.buf ≡ take c.in-Line.n (g.S.Source.rest c.loop-n.source) = ap (λ (k : ℕ). take k c.next_line.new.buf) y ∙ c.in-Line.ensures.came.0.front in
+    let t = turn_went 268435456 g.K.Kind.rules (g.S.Source.broken c.loop-n.source) c.loop-n.taken c.loop-n.size (g.K.Kind.means c.loop-n.kind) c.in-Line.ensures.came (omega (arith, c.if-past_cap-2.ensures)) (text_true (take c.in-Line.n (g.S.Source.rest c.loop-n.source)) (subst IsUtf8 q c.in-Ok.ensures.cases.1))
+    (g.K.Kind.means c.take.new.self) c.in-Ok.line.now c.take.result c.at_line.result (c.in-Ok.ensures.cases.0 ∙ q) c.take.ensures.next c.take.ensures.verdict c.at_line.ensures c.in-ok-at-line.field-0 c.in-ok-at-line.was in
     let i = c.loop-n.invariant.0 in
     let r = c.loop-n.invariant.3 in
     let k = c.in-Line.ensures.keeps in
     let l = c.in-Line.ensures.came.0 in
-    (cc, omega (arith, l.some), omega (arith, c.if-past-cap-2.ensures), omega arith, g.K.Kind.still c.args.kind.now c.loop-n.kind c.take.new.self c.loop-n.invariant.4 c.take.ensures.frame, k ∙ c.loop-n.invariant.5)
+    (cc, omega (arith, l.some), omega (arith, c.if-past_cap-2.ensures), omega arith, g.K.Kind.still c.args.kind.now c.loop-n.kind c.take.new.self c.loop-n.invariant.4 c.take.ensures.frame, k ∙ c.loop-n.invariant.5)

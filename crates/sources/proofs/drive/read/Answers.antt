@@ -12,4 +12,4 @@ returns-in-err-taken g c =
 
 pub returns : goal.returns
 unfolding reading
-returns g c = record { reading = closed_ok g.K.Kind.rules c.lines.ensures.course c.in-ok-taken.was c.close.ensures c.at-line.ensures; keeps = c.lines.ensures.keeps }
+returns g c = record { reading = closed_ok g.K.Kind.rules c.lines.ensures.course c.in_ok-taken.was c.close.ensures c.at_line.ensures; keeps = c.lines.ensures.keeps }

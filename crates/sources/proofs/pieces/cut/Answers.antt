@@ -5,5 +5,5 @@ use Rattle.sources.proofs.pieces.cut.Goals as goal
 
 pub returns : goal.returns
 returns c =
-    split_is_cut c.args.at c.args.text.now c.split-once.result c.split-once.ensures.cases (omega arith)
+    split_is_cut c.args.at c.args.text.now c.split_once.result c.split_once.ensures.cases (omega arith)
     ∙ sym (ap (λ (b : Bool). cond b (cut_of c.args.at c.args.text.now) None) (lt-ltb c.args.at 128 (omega arith)))

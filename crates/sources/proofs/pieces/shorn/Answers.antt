@@ -2,4 +2,4 @@ use Rattle.sources.proofs.Ends.{suffix-is}
 use Rattle.sources.proofs.pieces.shorn.Goals as goal
 
 pub returns : goal.returns
-returns c = suffix-is c.args.end.now c.args.text.now c.strip-suffix.result c.strip-suffix.ensures.cases
+returns c = suffix-is c.args.end.now c.args.text.now c.strip_suffix.result c.strip_suffix.ensures.cases

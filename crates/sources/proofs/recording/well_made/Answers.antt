@@ -6,12 +6,12 @@ use Rattle.sources.proofs.recording.well_made.Goals as goal
 pub returns-then-not-going : goal.returns-then-not-going
 returns-then-not-going c =
     sym (recorded-whole c.args.recording.now (omega arith) ∙ sym c.loop-left.invariant.0 ∙ well_more c.loop-left.left.now (omega arith) (omega arith)
-    ∙ ap (λ (t : Bool). t && well_made (records_of (drop 64 c.loop-left.left.now))) (ap going (sym c.split-at.ensures.front) ∙ sym c.if-not-going.ensures))
+    ∙ ap (λ (t : Bool). t && well_made (records_of (drop 64 c.loop-left.left.now))) (ap going (sym c.split_at.ensures.front) ∙ sym c.if-not-going.ensures))
 
 pub loop-left-preserved : goal.loop-left-preserved
 loop-left-preserved c = (
   sym (well_more c.loop-left.left.now (omega arith) (omega arith)
-      ∙ ap (λ (t : Bool). t && well_made (records_of (drop 64 c.loop-left.left.now))) (ap going (sym c.split-at.ensures.front) ∙ sym c.if-not-going.ensures) ∙ ap (λ l. well_made (records_of l)) (sym c.split-at.ensures.back)) ∙ c.loop-left.invariant.0,
+      ∙ ap (λ (t : Bool). t && well_made (records_of (drop 64 c.loop-left.left.now))) (ap going (sym c.split_at.ensures.front) ∙ sym c.if-not-going.ensures) ∙ ap (λ l. well_made (records_of l)) (sym c.split_at.ensures.back)) ∙ c.loop-left.invariant.0,
   omega arith,
 )
 

@@ -16,7 +16,7 @@ split-at-requires c =
 
 pub returns : goal.returns
 returns c =
-    let r = c.trim-ascii-start-rest.result.now in
-    let e = c.word-len-n.ensures ∙ ap (prefix_len in_word) c.as-bytes.ensures.value in
-    some_is c.args.text.now r _ _ c.trim-ascii-start-rest.ensures.value (sym c.if-is-empty.ensures)
+    let r = c.trim_ascii_start-rest.result.now in
+    let e = c.word_len-n.ensures ∙ ap (prefix_len in_word) c.as_bytes.ensures.value in
+    some_is c.args.text.now r _ _ c.trim_ascii_start-rest.ensures.value (sym c.if-is-empty.ensures)
     (c.split-at.ensures.front ∙ ap (λ n. take n r) e) (c.split-at.ensures.back ∙ ap (λ n. drop n r) e)

@@ -11,7 +11,7 @@ returns-then-is-ascii-whitespace c =
 pub loop-i-preserved : goal.loop-i-preserved
 loop-i-preserved c =
     leading-more in_word c.args.text.now c.loop-i.i _ c.loop-i.invariant c.loop-i-test.true
-    (ap not (sym c.if-is-ascii-whitespace.ensures.value))
+    (ap not (sym c.if-is_ascii_whitespace.ensures.value))
 
 pub returns : goal.returns
 returns c =

@@ -20,5 +20,5 @@ returns c =
     given_bytes c.args.buf.now (drop c.args.self.now.place c.args.self.now.bytes.now) false c.reach-n.result _ _
     (simp length-drop (omega arith))
     (c.reach-n.ensures ∙ ap (moved (length c.args.buf.now)) (take_rest c.args.self.now.bytes.now c.args.self.now.place))
-    (let a = c.copy-from-slice.ensures.after in let y : (c.args.self.now.place + c.reach-n.result) - c.args.self.now.place ≡ c.reach-n.result = omega arith in let z : c.reach-n.result - 0 ≡ c.reach-n.result = omega arith in simp (a, y, z))
+    (let a = c.copy_from_slice.ensures.after in let y : (c.args.self.now.place + c.reach-n.result) - c.args.self.now.place ≡ c.reach-n.result = omega arith in let z : c.reach-n.result - 0 ≡ c.reach-n.result = omega arith in simp (a, y, z))
     (sym (drop-drop c.reach-n.result c.args.self.now.place c.args.self.now.bytes.now))

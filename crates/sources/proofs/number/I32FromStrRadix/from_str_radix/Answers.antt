@@ -6,5 +6,5 @@ use Rattle.sources.proofs.number.I32FromStrRadix.from_str_radix.Goals as goal
 pub returns : goal.returns
 returns c =
     c.readable.ensures
-    ∙ reads_signed w32 c.args.radix c.args.t.now c.from-str-radix.result
-    (subst (λ (b : ℕ). ParsesSigned w32 b c.args.t.now c.from-str-radix.result) c.base.ensures c.from-str-radix.ensures.value)
+    ∙ reads_signed w32 c.args.radix c.args.t.now c.from_str_radix.result
+    (subst (λ (b : ℕ). ParsesSigned w32 b c.args.t.now c.from_str_radix.result) c.base.ensures c.from_str_radix.ensures.value)

@@ -17,7 +17,7 @@ returns c =
     let y : ((2 + c.args.self.now.used) + c.reach-k.result) - (2 + c.args.self.now.used) ≡ c.reach-k.result = omega arith in
     let z : c.reach-k.result - 0 ≡ c.reach-k.result = omega arith in
     let x : (2 + c.size-size.result) - (2 + c.args.self.now.used) ≡ c.size-size.result - c.args.self.now.used = omega arith in
-    let a = c.copy-from-slice.ensures.after in
+    let a = c.copy_from_slice.ensures.after in
     record {
       part = part_made c.args.buf.now c.args.self.now.records.now c.args.self.now.used c.size-size.result c.reach-k.result _ (omega arith) (omega arith) (omega arith) (omega arith)
           (c.reach-k.ensures ∙ ap (λ (j : ℕ). moved (length c.args.buf.now) (take j (drop (2 + c.args.self.now.used) c.args.self.now.records.now))) x)
