@@ -4,11 +4,11 @@ use Rattle.sources.specs.Lines.{reading, Outcome}
 use Rattle.sources.proofs.Closes.{closed_ok, closed_err, meaning_of}
 use Rattle.sources.proofs.drive.fill.Goals as goal
 
-pub returns-in-err-taken : goal.returns-in-err-taken
+pub returns-in_err-taken : goal.returns-in_err-taken
 unfolding reading
-returns-in-err-taken g c =
-    let p = err_from_is_err_and c.from-residual.result c.from-residual.ensures.1 in
-    record { reading = closed_err g.K.Kind.rules c.lines.ensures.course c.in-err-taken.was (p.1 ∙ ap Err p.2); means = meaning_of c.lines.ensures.course; frame = c.lines.ensures.frame; keeps = c.lines.ensures.keeps }
+returns-in_err-taken g c =
+    let p = err_from_is_err_and c.from_residual.result c.from_residual.ensures.1 in
+    record { reading = closed_err g.K.Kind.rules c.lines.ensures.course c.in_err-taken.was (p.1 ∙ ap Err p.2); means = meaning_of c.lines.ensures.course; frame = c.lines.ensures.frame; keeps = c.lines.ensures.keeps }
 
 pub returns : goal.returns
 unfolding reading

@@ -28,9 +28,9 @@ returns-in-Long g c =
     let i = c.loop-n.invariant.0 in
     let r = c.loop-n.invariant.3 in record { course = cc; frame = c.loop-n.invariant.4; keeps = c.in-Long.ensures.keeps ∙ c.loop-n.invariant.5 }
 
-pub returns-then-past-cap : goal.returns-then-past-cap
-returns-then-past-cap g c =
-    let t = turn_past 268435456 g.K.Kind.rules (g.S.Source.broken c.loop-n.source) c.loop-n.taken c.loop-n.size (g.K.Kind.means c.loop-n.kind) c.in-Lost.ensures.came.0 (omega (arith, c.if-past-cap.ensures)) in
+pub returns-then-past_cap : goal.returns-then-past_cap
+returns-then-past_cap g c =
+    let t = turn_past 268435456 g.K.Kind.rules (g.S.Source.broken c.loop-n.source) c.loop-n.taken c.loop-n.size (g.K.Kind.means c.loop-n.kind) c.in-Lost.ensures.came.0 (omega (arith, c.if-past_cap.ensures)) in
     let i = c.loop-n.invariant.0 in
     let r = c.loop-n.invariant.3 in record { course = cc; frame = c.loop-n.invariant.4; keeps = c.in-Lost.ensures.keeps ∙ c.loop-n.invariant.5 }
 
@@ -40,9 +40,9 @@ returns-in-Lost g c =
     let i = c.loop-n.invariant.0 in
     let r = c.loop-n.invariant.3 in record { course = cc; frame = c.loop-n.invariant.4; keeps = c.in-Lost.ensures.keeps ∙ c.loop-n.invariant.5 }
 
-pub returns-then-past-cap-2 : goal.returns-then-past-cap-2
-returns-then-past-cap-2 g c =
-    let t = turn_past 268435456 g.K.Kind.rules (g.S.Source.broken c.loop-n.source) c.loop-n.taken c.loop-n.size (g.K.Kind.means c.loop-n.kind) c.in-Line.ensures.came.0 (omega (arith, c.if-past-cap-2.ensures)) in
+pub returns-then-past_cap-2 : goal.returns-then-past_cap-2
+returns-then-past_cap-2 g c =
+    let t = turn_past 268435456 g.K.Kind.rules (g.S.Source.broken c.loop-n.source) c.loop-n.taken c.loop-n.size (g.K.Kind.means c.loop-n.kind) c.in-Line.ensures.came.0 (omega (arith, c.if-past_cap-2.ensures)) in
     let i = c.loop-n.invariant.0 in
     let r = c.loop-n.invariant.3 in record { course = cc; frame = c.loop-n.invariant.4; keeps = c.in-Line.ensures.keeps ∙ c.loop-n.invariant.5 }
 
@@ -54,13 +54,13 @@ returns-in-Err g c =
     let i = c.loop-n.invariant.0 in
     let r = c.loop-n.invariant.3 in record { course = cc; frame = c.loop-n.invariant.4; keeps = c.in-Line.ensures.keeps ∙ c.loop-n.invariant.5 }
 
-pub returns-in-err-at-line : goal.returns-in-err-at-line
-returns-in-err-at-line g c =
-    let p = err_from_is_err_and c.from-residual.result c.from-residual.ensures.1 in
+pub returns-in_err-at_line-in-Ok : goal.returns-in_err-at_line-in-Ok
+returns-in_err-at_line-in-Ok g c =
+    let p = err_from_is_err_and c.from_residual.result c.from_residual.ensures.1 in
     let y : c.in-Line.n - 0 ≡ c.in-Line.n = omega arith in
-    let q : take (c.in-Line.n - 0) c.next-line.new.buf ≡ take c.in-Line.n (g.S.Source.rest c.loop-n.source) = ap (λ (k : ℕ). take k c.next-line.new.buf) y ∙ c.in-Line.ensures.came.0.front in
-    let t = turn_stopped 268435456 g.K.Kind.rules (g.S.Source.broken c.loop-n.source) c.loop-n.taken c.loop-n.size (g.K.Kind.means c.loop-n.kind) c.in-Line.ensures.came (omega (arith, c.if-past-cap-2.ensures)) (text_true (take c.in-Line.n (g.S.Source.rest c.loop-n.source)) (subst IsUtf8 q c.in-Ok.ensures.cases.1))
-    (g.K.Kind.means c.take.new.self) c.in-Ok.line.now c.take.result c.at-line.result (c.in-Ok.ensures.cases.0 ∙ q) c.take.ensures.next c.take.ensures.verdict c.at-line.ensures c.in-err-at-line.field-0.0 c.in-err-at-line.was in
+    let q : take (c.in-Line.n - 0) c.next_line.new.buf ≡ take c.in-Line.n (g.S.Source.rest c.loop-n.source) = ap (λ (k : ℕ). take k c.next_line.new.buf) y ∙ c.in-Line.ensures.came.0.front in
+    let t = turn_stopped 268435456 g.K.Kind.rules (g.S.Source.broken c.loop-n.source) c.loop-n.taken c.loop-n.size (g.K.Kind.means c.loop-n.kind) c.in-Line.ensures.came (omega (arith, c.if-past_cap-2.ensures)) (text_true (take c.in-Line.n (g.S.Source.rest c.loop-n.source)) (subst IsUtf8 q c.in-Ok.ensures.cases.1))
+    (g.K.Kind.means c.take.new.self) c.in-Ok.line.now c.take.result c.at_line.result (c.in-Ok.ensures.cases.0 ∙ q) c.take.ensures.next c.take.ensures.verdict c.at_line.ensures c.in_err-at_line-in-Ok.field-0.0 c.in_err-at_line-in-Ok.was in
     let i = c.loop-n.invariant.0 in
     let r = c.loop-n.invariant.3 in
     let p1 = p.1 in let p2 = p.2 in
@@ -74,7 +74,7 @@ loop-n-preserved g c =
     let y : c.in-Line.n - 0 ≡ c.in-Line.n = omega arith in
     let q : take (c.in-Line.n - 0) c.next_line.new.buf ≡ take c.in-Line.n (g.S.Source.rest c.loop-n.source) = ap (λ (k : ℕ). take k c.next_line.new.buf) y ∙ c.in-Line.ensures.came.0.front in
     let t = turn_went 268435456 g.K.Kind.rules (g.S.Source.broken c.loop-n.source) c.loop-n.taken c.loop-n.size (g.K.Kind.means c.loop-n.kind) c.in-Line.ensures.came (omega (arith, c.if-past_cap-2.ensures)) (text_true (take c.in-Line.n (g.S.Source.rest c.loop-n.source)) (subst IsUtf8 q c.in-Ok.ensures.cases.1))
-    (g.K.Kind.means c.take.new.self) c.in-Ok.line.now c.take.result c.at_line.result (c.in-Ok.ensures.cases.0 ∙ q) c.take.ensures.next c.take.ensures.verdict c.at_line.ensures c.in-ok-at-line.field-0 c.in-ok-at-line.was in
+    (g.K.Kind.means c.take.new.self) c.in-Ok.line.now c.take.result c.at_line.result (c.in-Ok.ensures.cases.0 ∙ q) c.take.ensures.next c.take.ensures.verdict c.at_line.ensures c.in_ok-at_line-in-Ok.field-0 c.in_ok-at_line-in-Ok.was in
     let i = c.loop-n.invariant.0 in
     let r = c.loop-n.invariant.3 in
     let k = c.in-Line.ensures.keeps in

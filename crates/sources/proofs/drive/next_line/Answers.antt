@@ -13,5 +13,5 @@ returns-then-n-buf g c = record { came = came_long c.requires c.in-Bytes.ensures
 pub returns-in-Broken-piece : goal.returns-in-Broken-piece
 returns-in-Broken-piece g c = record { came = came_lost _ c.requires c.in-Bytes.ensures c.if-buf-n-eq10.false (omega arith) (omega arith) (omega arith) c.in-Broken-piece.ensures; keeps = c.piece-in-Bytes.ensures.keeps ∙ c.piece.ensures.keeps }
 
-pub returns-in-default : goal.returns-in-default
-returns-in-default g c = record { came = came_rest _ c.requires c.in-Bytes.ensures c.if-buf-n-eq10.false (omega arith) (omega arith) (omega arith) (simp (length-take, length-drop) (omega (arith, (seen c.args.buf.now (g.S.Source.rest c.args.source.now) (g.S.Source.broken c.args.source.now) c.in-Bytes.n c.piece.new.buf (g.S.Source.rest c.piece.new.self) (g.S.Source.broken c.piece.new.self) c.requires c.in-Bytes.ensures).is))) c.piece-in-Bytes.ensures c.in-default.not-Broken; keeps = c.piece-in-Bytes.ensures.keeps ∙ c.piece.ensures.keeps }
+pub returns-in_default : goal.returns-in_default
+returns-in_default g c = record { came = came_rest _ c.requires c.in-Bytes.ensures c.if-buf-n-eq10.false (omega arith) (omega arith) (omega arith) (simp (length-take, length-drop) (omega (arith, (seen c.args.buf.now (g.S.Source.rest c.args.source.now) (g.S.Source.broken c.args.source.now) c.in-Bytes.n c.piece.new.buf (g.S.Source.rest c.piece.new.self) (g.S.Source.broken c.piece.new.self) c.requires c.in-Bytes.ensures).is))) c.piece-in-Bytes.ensures c.in_default.not-Broken; keeps = c.piece-in-Bytes.ensures.keeps ∙ c.piece.ensures.keeps }

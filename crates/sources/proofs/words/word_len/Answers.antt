@@ -3,10 +3,10 @@ use Rattle.sources.specs.Words.{in_word}
 use Rattle.sources.proofs.Leads.{leading-stops, leading-more, leading-all}
 use Rattle.sources.proofs.words.word_len.Goals as goal
 
-pub returns-then-is-ascii-whitespace : goal.returns-then-is-ascii-whitespace
-returns-then-is-ascii-whitespace c =
+pub returns-then-is_ascii_whitespace : goal.returns-then-is_ascii_whitespace
+returns-then-is_ascii_whitespace c =
     leading-stops in_word c.args.text.now c.loop-i.i _ c.loop-i.invariant c.loop-i-test.true
-    (ap not (sym c.if-is-ascii-whitespace.ensures.value))
+    (ap not (sym c.if-is_ascii_whitespace.ensures.value))
 
 pub loop-i-preserved : goal.loop-i-preserved
 loop-i-preserved c =

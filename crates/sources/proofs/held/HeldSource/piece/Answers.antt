@@ -10,8 +10,8 @@ returns-then-self c =
     given_end c.args.buf.now (drop c.args.self.now.place c.args.self.now.bytes.now) false
     (omega arith) (simp length-drop (omega arith))
 
-pub slice-bounds-copy-from-slice-end-2 : goal.slice-bounds-copy-from-slice-end-2
-slice-bounds-copy-from-slice-end-2 c =
+pub slice_bounds-copy_from_slice-end-2 : goal.slice_bounds-copy_from_slice-end-2
+slice_bounds-copy_from_slice-end-2 c =
     let e : c.reach-n.result ≡ moved (length c.args.buf.now) (drop c.args.self.now.place c.args.self.now.bytes.now) = c.reach-n.ensures ∙ ap (moved (length c.args.buf.now)) (take_rest c.args.self.now.bytes.now c.args.self.now.place) in
     omega (arith, through-≤ (drop c.args.self.now.place c.args.self.now.bytes.now), length-drop c.args.self.now.place c.args.self.now.bytes.now)
 

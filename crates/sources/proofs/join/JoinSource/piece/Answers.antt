@@ -18,16 +18,16 @@ returns-in-Bytes-piece g c =
     let t2 = c.piece-in-Bytes.ensures.keeps ∙ ne.1 in
     join_more c.args.buf.now (g.A.Source.rest c.args.self.now.first) (g.A.Source.broken c.args.self.now.first) (g.A.Source.broken c.piece-in-Bytes.new.self) c.in-Bytes.k c.piece.new.buf _ (g.A.Source.rest c.piece-in-Bytes.new.self) (g.B.Source.rest c.args.self.now.second) (g.B.Source.broken c.args.self.now.second) c.in-Bytes-piece.m c.piece-in-Ended-piece.new.buf (g.B.Source.rest c.piece-in-Ended-piece.new.self) (g.B.Source.broken c.piece-in-Ended-piece.new.self) s t t2 c.in-Bytes-piece.ensures
 
-pub returns-in-default-piece : goal.returns-in-default-piece
-returns-in-default-piece g c =
+pub returns-in_default-piece : goal.returns-in_default-piece
+returns-in_default-piece g c =
     let s = spent c.args.buf.now (g.A.Source.rest c.args.self.now.first) (g.A.Source.broken c.args.self.now.first) c.in-Bytes.k c.piece.new.buf (g.A.Source.rest c.piece.new.self) (g.A.Source.broken c.piece.new.self) c.piece-in-Bytes.result c.piece-in-Bytes.new.buf (g.A.Source.rest c.piece-in-Bytes.new.self) (g.A.Source.broken c.piece-in-Bytes.new.self)
     (omega arith) (omega arith) c.in-Bytes.ensures c.if-buf-k-eq10.false (omega arith) c.piece-in-Bytes.ensures in
     let ne = none_left _ _ _ _ _ _ c.in-Ended-piece.ensures in
     let t = sym c.piece.ensures.keeps ∙ ne.1 in
     let t2 = c.piece-in-Bytes.ensures.keeps ∙ ne.1 in
-    join-none c.args.buf.now (g.A.Source.rest c.args.self.now.first) (g.A.Source.broken c.args.self.now.first) (g.A.Source.broken c.piece-in-Bytes.new.self) c.in-Bytes.k c.piece.new.buf _ (g.A.Source.rest c.piece-in-Bytes.new.self) (g.B.Source.rest c.args.self.now.second) (g.B.Source.broken c.args.self.now.second) c.piece-in-Ended-piece.result c.piece-in-Ended-piece.new.buf (g.B.Source.rest c.piece-in-Ended-piece.new.self) (g.B.Source.broken c.piece-in-Ended-piece.new.self) s t t2 c.piece-in-Ended-piece.ensures c.in-default-piece.not-Bytes
+    join-none c.args.buf.now (g.A.Source.rest c.args.self.now.first) (g.A.Source.broken c.args.self.now.first) (g.A.Source.broken c.piece-in-Bytes.new.self) c.in-Bytes.k c.piece.new.buf _ (g.A.Source.rest c.piece-in-Bytes.new.self) (g.B.Source.rest c.args.self.now.second) (g.B.Source.broken c.args.self.now.second) c.piece-in-Ended-piece.result c.piece-in-Ended-piece.new.buf (g.B.Source.rest c.piece-in-Ended-piece.new.self) (g.B.Source.broken c.piece-in-Ended-piece.new.self) s t t2 c.piece-in-Ended-piece.ensures c.in_default-piece.not-Bytes
 
-pub returns-in-default : goal.returns-in-default
-returns-in-default g c =
+pub returns-in_default : goal.returns-in_default
+returns-in_default g c =
     join-broken c.args.buf.now (g.A.Source.rest c.args.self.now.first) (g.A.Source.broken c.args.self.now.first) c.in-Bytes.k c.piece.new.buf (g.A.Source.rest c.piece.new.self) (g.A.Source.broken c.piece.new.self) c.piece-in-Bytes.result c.piece-in-Bytes.new.buf (g.A.Source.rest c.piece-in-Bytes.new.self) (g.A.Source.broken c.piece-in-Bytes.new.self) (g.B.Source.rest c.args.self.now.second) (g.B.Source.broken c.args.self.now.second)
-    (omega arith) (omega arith) c.in-Bytes.ensures c.if-buf-k-eq10.false (omega arith) c.piece-in-Bytes.ensures c.in-default.not-Ended
+    (omega arith) (omega arith) c.in-Bytes.ensures c.if-buf-k-eq10.false (omega arith) c.piece-in-Bytes.ensures c.in_default.not-Ended

@@ -5,8 +5,8 @@ use Rattle.sources.proofs.Through.{through-≤}
 use Rattle.sources.proofs.Parts.{part_made}
 use Rattle.sources.proofs.spool.Spool.part.Goals as goal
 
-pub slice-bounds-copy-from-slice-end-2 : goal.slice-bounds-copy-from-slice-end-2
-slice-bounds-copy-from-slice-end-2 c =
+pub slice_bounds-copy_from_slice-end-2 : goal.slice_bounds-copy_from_slice-end-2
+slice_bounds-copy_from_slice-end-2 c =
     let a = through-≤ (take ((2 + c.size-size.result) - (2 + c.args.self.now.used)) (drop (2 + c.args.self.now.used) c.args.self.now.records.now)) in
     let b = length-take ((2 + c.size-size.result) - (2 + c.args.self.now.used)) (drop (2 + c.args.self.now.used) c.args.self.now.records.now) in
     let d = length-drop (2 + c.args.self.now.used) c.args.self.now.records.now in
