@@ -1,9 +1,8 @@
 -- The three ways in which a source answers a call of `piece`.
-use Rattle.std.proofs.Common.{◌≡◌, ℕ, suc, ◌+◌, ◌-◌, ◌<◌, ◌≤◌, min, Bool, true, false, cond, eqb, List, [], ◌∷◌, ◌++◌, length, get_or, take, drop, sym, refl, ap, ◌∙◌, subst, arith, eq-eqb, ne_eqb}
-use Rattle.sources.specs.Bytes.{through, moved}
+use Rattle.std.proofs.Common.{◌≡◌, ℕ, ◌<◌, Bool, cond, List, [], ◌∷◌, ◌++◌, length, take, drop, sym, refl, ap, arith, ne_eqb}
+use Rattle.sources.specs.Bytes.{moved}
 use Rattle.sources.specs.Given.{Given, answer, ending}
-use Rattle.sources.specs.declared.source.Piece.{Piece}
-use Rattle.sources.specs.declared.source.Piece.TheVariants.{Bytes, Ended, Broken}
+use Rattle.sources.specs.declared.source.Piece.TheVariants.{Bytes}
 
 -- a buffer of no bytes
 pub given_none : (buf xs : List ℕ) (broken : Bool) → length buf ≡ 0 → Given buf xs broken (Bytes 0) buf xs broken

@@ -1,9 +1,9 @@
 -- A reading is a course and a closing.
-use Rattle.std.proofs.Common.{◌≡◌, ℕ, List, Ok, Err, Result, sym, refl, ap, ◌∙◌}
+use Rattle.std.proofs.Common.{◌≡◌, ℕ, List, Ok, Err, Result, sym, ap, ◌∙◌}
 use Rattle.sources.specs.declared.fault.Fault.{Fault}
 use Rattle.sources.specs.declared.fault.Refusal.{Refusal}
 use Rattle.sources.specs.Lines.{Outcome, closes}
-use Rattle.sources.specs.Faults.{at_line, located}
+use Rattle.sources.specs.Faults.{at_line}
 use Rattle.sources.specs.Rules.{Rules}
 
 pub closed_ok : {M C : Type 0} (R : Rules M C) {o : Outcome M} {v : Result ℕ Refusal} {m : M} {left : List ℕ} {taken : ℕ} {r : Result C Fault} {s : Result C Refusal} →

@@ -1,16 +1,16 @@
 -- A join of two sources answers as one.
-use Rattle.std.proofs.Common.{◌≡◌, ℕ, suc, ◌+◌, ◌-◌, ◌<◌, ◌≤◌, min, Bool, true, false, cond, eqb, ◌⊎◌, List, [], ◌∷◌, ◌++◌, length, get_or, take, drop, sym, refl, ap, ◌∙◌, subst, inl, inr, append_assoc, append-nil, arith, length-append, length-drop, eq-eqb, ne_eqb, eqb-true}
+use Rattle.std.proofs.Common.{◌≡◌, ℕ, suc, ◌+◌, ◌-◌, ◌<◌, ◌≤◌, Bool, true, false, cond, eqb, ◌⊎◌, List, [], ◌∷◌, ◌++◌, length, get_or, take, drop, sym, refl, ap, ◌∙◌, subst, inl, inr, append_assoc, append-nil, arith, length-append, length-drop, ne_eqb, eqb-true}
 use borrow.Author.Tests.{eqb-false}
 use Rattle.std.proofs.lemmas.List.{drop-append-le, take-append-le, get_or-take, drop_all, take_rest, take_at, drop_at, take_all, take-append-drop, drop-drop}
 use Rattle.std.proofs.lemmas.Bool.{cases_Bool, cases_lt}
 use Rattle.sources.specs.Bytes.{through, moved}
-use Rattle.sources.specs.Given.{Given, answer, ending}
+use Rattle.sources.specs.Given.{Given, answer}
 use Rattle.sources.specs.Joined.{joined, either}
 use Rattle.sources.specs.declared.source.Piece.{Piece}
-use Rattle.sources.specs.declared.source.Piece.TheVariants.{Bytes, Ended, Broken}
+use Rattle.sources.specs.declared.source.Piece.TheVariants.{Bytes, Ended}
 use Rattle.sources.proofs.Through.{through-≤, through-some}
 use Rattle.sources.proofs.Answered.{given_bytes}
-use Rattle.sources.proofs.Steps.{Seen, seen, one, last-is, left_is, fits, whole, none_left, broken_left}
+use Rattle.sources.proofs.Steps.{seen, one, last-is, left_is, whole}
 use Rattle.sources.proofs.Next.{none_after, through-open}
 use borrow.Rule.Slice.PartMut.{put_mid}
 

@@ -1,8 +1,8 @@
 -- What the definitions say of the first record, and of those behind it.
-use Rattle.std.proofs.Common.{◌≡◌, ℕ, zero, suc, ◌+◌, ◌-◌, ◌*◌, ◌/◌, ◌%◌, ◌<◌, ◌≤◌, min, Bool, true, false, cond, ◌&&◌, ◌||◌, eqb, ltb, leb, ◌⊎◌, List, [], ◌∷◌, ◌++◌, length, get_or, take, drop, sym, refl, ap, ◌∙◌, subst, inl, inr, arith, length-drop, eq-eqb, ne_eqb}
-use Rattle.std.proofs.lemmas.List.{drop_more, drop_all, length-take, length-take-le, take_all, take-take, drop-take, drop-drop, get_or-take}
+use Rattle.std.proofs.Common.{◌≡◌, ℕ, suc, ◌+◌, ◌-◌, ◌/◌, ◌%◌, ◌<◌, ◌≤◌, min, Bool, true, false, ◌&&◌, eqb, List, [], ◌∷◌, ◌++◌, length, get_or, take, drop, sym, refl, ap, ◌∙◌, inl, inr, arith, length-drop, eq-eqb, ne_eqb}
+use Rattle.std.proofs.lemmas.List.{drop_more, drop_all, length-take, take_all, take-take, drop-take, drop-drop, get_or-take}
 use Rattle.std.proofs.lemmas.Bool.{cases_lt}
-use Rattle.sources.specs.Records.{size, mark, zeros, formed, firsts, records_of, well_made, recorded, text_of_record, text_of_records, ending_of, to_come, broken_of, after, going, last}
+use Rattle.sources.specs.Records.{zeros, firsts, records_of, well_made, recorded, text_of_record, text_of_records, ending_of, to_come, broken_of, after, going, last}
 
 pub zeros-at : (xs : List ℕ) (i : ℕ) → i < length xs → (get_or xs i 0 ≡ 0 → ⊥) → false ≡ zeros (drop i xs)
 zeros-at xs i h e = sym (ap zeros (drop_more xs i 0 h) ∙ ap (λ (t : Bool). t && zeros (drop (i + 1) xs)) (ne_eqb (get_or xs i 0) 0 e))

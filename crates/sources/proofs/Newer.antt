@@ -1,18 +1,16 @@
 -- A newer edition of a text reads the same.
-use Rattle.std.proofs.Common.{◌≡◌, ℕ, ◌+◌, ◌-◌, ◌<◌, ◌≤◌, Bool, true, false, cond, not, eqb, ltb, List, [], ◌∷◌, ◌++◌, length, get_or, take, drop, Some, None, Ok, Err, Option, Result, sym, refl, ap, ◌∙◌, subst, inl, inr, arith, length-append, le-ltb, lt-ltb, eq-eqb, ne_eqb}
+use Rattle.std.proofs.Common.{◌≡◌, ℕ, ◌+◌, ◌≤◌, Bool, true, false, cond, not, eqb, ltb, List, ◌∷◌, length, Some, None, Ok, Err, Option, Result, sym, refl, ap, ◌∙◌, subst, inl, inr, arith, length-append, le-ltb}
 use Rattle.std.proofs.lemmas.List.{take_all}
 use Rattle.std.proofs.lemmas.Bool.{cases_Bool}
 use Rattle.sources.specs.declared.fault.Fault.{Fault}
-use Rattle.sources.specs.declared.reason.Reason.{Reason}
-use Rattle.sources.specs.declared.reason.Reason.TheVariants as reason
 use Rattle.sources.specs.declared.fault.Refusal.{Refusal}
 use Rattle.sources.specs.Utf8.{is_utf8}
-use Rattle.sources.specs.Lines.{lines_of, text_of, ended, full, long, lost, walk, judged, Outcome, broke, ending, on_fault, reading, course, closing}
-use Rattle.sources.specs.Faults.{at_line, located, refused}
+use Rattle.sources.specs.Lines.{text_of, ended, full, long, lost, walk, judged, Outcome, broke, ending, on_fault, reading, course, closing}
+use Rattle.sources.specs.Faults.{at_line}
 use Rattle.sources.specs.Rules.{Rules, ForeignIsAside, BeginsWithALine}
 use Rattle.sources.specs.declared.kind.Break.{Break}
 use Rattle.sources.specs.declared.kind.Break.TheVariants.{Refuses, Ends}
-use Rattle.sources.specs.Editions.{Added, Edition, over, keep, more, Same, NewerReadsSame}
+use Rattle.sources.specs.Editions.{Edition, over, keep, more, Same, NewerReadsSame}
 use Rattle.sources.proofs.Split.{text_lines}
 use Rattle.sources.proofs.Steps.{judged-long, judged-cut, judged-text, judged-kind}
 

@@ -1,18 +1,17 @@
 -- What the driver's two calls of `piece` say of the next line.
-use Rattle.std.proofs.Common.{◌≡◌, ℕ, zero, suc, ◌+◌, ◌-◌, ◌<◌, ◌≤◌, min, Bool, true, false, cond, not, eqb, ltb, ◌⊎◌, List, [], ◌∷◌, ◌++◌, length, get_or, take, drop, sym, refl, ap, ◌∙◌, subst, inl, inr, arith, eq-eqb, ne_eqb, eqb-true}
+use Rattle.std.proofs.Common.{◌≡◌, ℕ, suc, ◌-◌, ◌<◌, Bool, true, cond, eqb, ◌⊎◌, List, [], ◌∷◌, length, get_or, take, drop, sym, refl, ap, ◌∙◌, inl, inr, arith, ne_eqb, eqb-true}
 use borrow.Rule.Slice.PartMut.{put_mid}
 use Rattle.std.proofs.lemmas.List.{drop_all, get_or-take, length-append, length-take-le}
 use Rattle.std.proofs.lemmas.Slice.{take-put_mid_below}
 use Rattle.std.proofs.lemmas.Bool.{cases_Bool, cases_lt}
 use Rattle.sources.specs.Bytes.{through, moved}
 use Rattle.sources.specs.Given.{Given, answer, ending}
-use Rattle.sources.specs.Lines.{ended, long}
 use Rattle.sources.specs.Came.{Lined, Came}
 use Rattle.sources.specs.declared.source.Piece.{Piece}
 use Rattle.sources.specs.declared.source.Piece.TheVariants as piece
-use Rattle.sources.specs.declared.drive.Next.TheVariants.{Line, Lost, Long, Ended, Broken}
-use Rattle.sources.proofs.Through.{through-≤, through-some}
-use Rattle.sources.proofs.Steps.{Seen, one, last-is, whole, fits, seen, left_is, is_long, not_long, ended_is, stands, broken_left}
+use Rattle.sources.specs.declared.drive.Next.TheVariants.{Line, Lost, Long}
+use Rattle.sources.proofs.Through.{through-some}
+use Rattle.sources.proofs.Steps.{one, last-is, whole, fits, seen, left_is, is_long, not_long, ended_is, stands, broken_left}
 
 -- a line without a byte 10 at its end is the rest of the text
 open_or : (xs : List ℕ) → (through xs ≡ length xs) ⊎ (get_or xs (through xs - 1) 0 ≡ 10)

@@ -1,16 +1,16 @@
 -- Bytes of one record moved, and pieces made of several such parts.
 use Rattle.std.proofs.Common.{◌≡◌, ℕ, zero, suc, ◌+◌, ◌-◌, ◌<◌, ◌≤◌, min, Bool, true, false, cond, eqb, ◌⊎◌, List, [], ◌∷◌, ◌++◌, length, get_or, take, drop, sym, refl, ap, ◌∙◌, subst, inl, inr, append_assoc, append-nil, zero-add, arith, length-append, length-drop, eq-eqb, ne_eqb}
-use borrow.Rule.Slice.PartMut.{put_mid, post_of}
+use borrow.Rule.Slice.PartMut.{put_mid}
 use Rattle.sources.specs.declared.source.Piece.{Piece}
-use Rattle.std.proofs.lemmas.List.{drop_all, take_rest, length-take, length-take-le, take_all, take-take, take-append-le, drop-append-le, drop-take, drop-drop, get_or-take, take_at, drop_at}
+use Rattle.std.proofs.lemmas.List.{drop_all, take_rest, length-take-le, take_all, take-take, take-append-le, drop-append-le, drop-take, drop-drop, get_or-take, take_at, drop_at}
 use Rattle.std.proofs.lemmas.Bool.{cases_eq}
 use Rattle.sources.specs.Bytes.{through, moved}
 use Rattle.sources.specs.Given.{Given, ending}
-use Rattle.sources.specs.declared.source.Piece.TheVariants.{Bytes, Ended, Broken}
+use Rattle.sources.specs.declared.source.Piece.TheVariants.{Bytes}
 use Rattle.sources.proofs.Through.{through-≤, through-some}
 use Rattle.sources.proofs.Split.{through-first}
 use Rattle.sources.proofs.Answered.{given_bytes, given_end}
-use Rattle.sources.specs.Records.{Part, to_come, broken_of, text_of_records, records_of}
+use Rattle.sources.specs.Records.{Part, to_come, text_of_records, records_of}
 use Rattle.sources.proofs.Made.{to_come-is}
 
 pub through-front : (xs ys : List ℕ) → through xs ≤ through (xs ++ ys)

@@ -1,16 +1,15 @@
 -- From std's relation between a text and the number read from it to the defined reading.
-use Rattle.std.proofs.Common.{◌≡◌, ℕ, zero, suc, ◌^◌, ◌<◌, ◌≤◌, Bool, true, false, cond, ◌&&◌, ltb, leb, List, [], ◌∷◌, length, ℤ, pos, neg_ℤ, Some, None, Ok, Err, Decides, Option, Result, sym, refl, ap, arith, pow_pos, SFits, le-leb, leb-true}
+use Rattle.std.proofs.Common.{◌≡◌, ℕ, zero, suc, ◌^◌, ◌≤◌, Bool, true, false, cond, ltb, leb, List, [], ◌∷◌, length, ℤ, pos, neg_ℤ, Ok, Err, Decides, Result, refl, ap, arith, pow_pos, SFits, le-leb, leb-true}
 use mir.Syntax.{Width}
 use mir.Val.{hbits}
 use Rattle.std.specs.Result.{OkIff, result_ok}
-use Rattle.std.specs.Str.Parse.{AllDigits, IsNumeral, digits_value, without_leading_plus, without_leading_sign, starts_with_minus, signed_digits_value, ParsesUnsigned, ParsesSigned}
+use Rattle.std.specs.Str.Parse.{AllDigits, IsNumeral, without_leading_plus, without_leading_sign, starts_with_minus, ParsesUnsigned, ParsesSigned}
 use Rattle.std.specs.Char.{digit_value}
-use Rattle.std.proofs.lemmas.Bool.Decides.{Decides-and, Decides-ltb, nat_tests}
+use Rattle.std.proofs.lemmas.Bool.Decides.{Decides-and, Decides-ltb}
 use Rattle.std.specs.Option.{ok_or}
-use Rattle.sources.specs.declared.fault.NumberFault.{NumberFault}
 use Rattle.sources.specs.declared.fault.NumberFault.TheVariants.{Unreadable}
 use Rattle.sources.specs.declared.number.Radix.{Radix}
-use Rattle.sources.specs.Number.{base_of, all_under, numeral, fitting, unsigned, within, signed}
+use Rattle.sources.specs.Number.{base_of, all_under, numeral, fitting, unsigned, signed}
 
 under_decides : (b : ℕ) (ds : List ℕ) → Decides (all_under b ds) (AllDigits b ds)
 under_decides b [] = (λ _. tt, λ _. refl)

@@ -1,18 +1,15 @@
 -- What one turn of the driver's loop reads, and what the definition says of it.
-use Rattle.std.proofs.Common.{◌≡◌, ℕ, zero, suc, ◌+◌, ◌-◌, ◌<◌, ◌≤◌, min, Bool, true, false, cond, not, eqb, ltb, List, [], ◌∷◌, ◌++◌, length, get_or, take, drop, Some, None, Ok, Err, IsUtf8, Option, sym, refl, ap, ◌∙◌, subst, inl, inr, ⊎_elim, arith, le-ltb, lt-ltb, eq-eqb, ne_eqb}
-use Rattle.std.proofs.lemmas.List.{length-take, length-take-le, take-take, take-append-le, take_all, get_or-take, take-append-drop, drop-drop, drop_all, take_at}
+use Rattle.std.proofs.Common.{◌≡◌, ℕ, ◌+◌, ◌-◌, ◌<◌, min, Bool, true, false, cond, not, eqb, ltb, List, [], ◌∷◌, ◌++◌, length, get_or, take, drop, Err, IsUtf8, sym, refl, ap, ◌∙◌, subst, inl, inr, arith, eq-eqb, ne_eqb}
+use Rattle.std.proofs.lemmas.List.{length-take, length-take-le, take-take, take_all, get_or-take, drop_all, take_at}
 use Rattle.std.proofs.lemmas.Bool.{cases_lt, cases_eq, cases_Bool}
-use Rattle.sources.specs.declared.reason.Reason.{Reason}
 use Rattle.sources.specs.declared.reason.Reason.TheVariants as reason
-use Rattle.sources.specs.declared.fault.Fault.{Fault}
 use Rattle.sources.specs.Utf8.{is_utf8}
 use Rattle.sources.proofs.Utf8.{text_formed, formed-text}
 use Rattle.sources.specs.Bytes.{through, moved}
 use Rattle.sources.specs.Given.{Given, ending}
-use Rattle.sources.specs.Lines.{lost, lines_of, text_of, ahead, ended, full, long, judged, walk, Outcome, broke, on_fault}
-use Rattle.sources.specs.Faults.{at_line, located, refused}
+use Rattle.sources.specs.Lines.{lost, lines_of, ended, full, long, judged, walk, Outcome, broke, on_fault}
+use Rattle.sources.specs.Faults.{refused}
 use Rattle.sources.specs.Rules.{Rules}
-use Rattle.sources.specs.declared.source.Piece.{Piece}
 use Rattle.sources.specs.declared.source.Piece.TheVariants.{Bytes, Ended, Broken}
 use Rattle.sources.proofs.Through.{through-≤, through-some}
 use Rattle.sources.proofs.Split.{lines_some, text_lines, through-first}

@@ -1,7 +1,7 @@
 -- What `through` is at one more byte, and its bounds.
-use Rattle.std.proofs.Common.{◌≡◌, ℕ, suc, ◌+◌, ◌-◌, ◌<◌, ◌≤◌, min, Bool, true, false, cond, eqb, ◌⊎◌, List, [], ◌∷◌, ◌++◌, length, get_or, take, drop, sym, refl, ap, ◌∙◌, inl, inr, arith, eq-eqb, ne_eqb}
+use Rattle.std.proofs.Common.{◌≡◌, ℕ, suc, ◌+◌, ◌<◌, ◌≤◌, Bool, true, false, cond, eqb, List, [], ◌∷◌, length, get_or, drop, ap, ◌∙◌, arith, eq-eqb, ne_eqb}
 use Rattle.std.proofs.lemmas.List.{drop_more, drop_all}
-use Rattle.sources.specs.Bytes.{through, moved}
+use Rattle.sources.specs.Bytes.{through}
 
 pub through-at : (xs : List ℕ) (n : ℕ) → n < length xs → get_or xs n 0 ≡ 10 → through (drop n xs) ≡ 1
 through-at xs n h e = ap through (drop_more xs n 0 h) ∙ ap (λ (t : Bool). cond t 1 (suc (through (drop (n + 1) xs)))) (eq-eqb (get_or xs n 0) 10 e)

@@ -1,10 +1,10 @@
-use Rattle.std.proofs.Common.{◌≡◌, ℕ, ◌+◌, ◌<◌, ◌≤◌, Bool, true, false, cond, not, List, [], ◌∷◌, ◌++◌, length, take, drop, IsUtf8, sym, refl, ap, ◌∙◌, subst, append_assoc, append-nil, arith, length-append}
+use Rattle.std.proofs.Common.{◌≡◌, ℕ, ◌≤◌, Bool, true, false, not, List, [], ◌∷◌, ◌++◌, length, take, drop, IsUtf8, sym, refl, ap, ◌∙◌, subst, append_assoc, append-nil, arith}
 use lib.Utf8.{encode, encodes, scalar}
 use Rattle.std.specs.Char.{is_whitespace, is_not_whitespace}
 use Rattle.std.specs.Str.{NonePass, NoCharPasses, EmptyOrStartsWithPassing, EmptyOrEndsWithPassing, chars}
 use Rattle.std.proofs.lemmas.List.{take-append-drop, take_at}
 use Rattle.std.proofs.lemmas.Str.Pattern.{IsTrimResult}
-use Rattle.std.proofs.lemmas.Str.{encodes-append, encodes_same, encodes-chars, cons_from_encodes, IsCharBoundary-at_seam, IsUtf8-take, IsUtf8-encode, chars-nil, chars_past_char}
+use Rattle.std.proofs.lemmas.Str.{encodes-append, encodes_same, encodes-chars, IsCharBoundary-at_seam, IsUtf8-take, IsUtf8-encode, chars-nil, chars_past_char}
 use Rattle.sources.specs.White.{trim_front, trim_back, keep, trim, trim_start}
 
 pub is_white : (b : Bool) → not b ≡ false → b ≡ true

@@ -1,18 +1,17 @@
 -- What the definition of a reading says of the next line.
-use Rattle.std.proofs.Common.{◌≡◌, ℕ, ◌+◌, ◌-◌, ◌<◌, ◌≤◌, Bool, true, false, cond, not, List, [], ◌∷◌, ◌++◌, length, get_or, take, drop, Some, None, Ok, Err, Option, Result, sym, refl, ap, ◌∙◌, subst, arith, le-ltb, lt-ltb}
+use Rattle.std.proofs.Common.{◌≡◌, ℕ, ◌+◌, ◌<◌, ◌≤◌, Bool, true, false, List, [], length, take, drop, Some, None, Ok, Err, Option, Result, sym, refl, ap, ◌∙◌, arith, le-ltb, lt-ltb}
 use Rattle.std.proofs.lemmas.List.{take-append-drop}
 use Rattle.sources.specs.Bytes.{through}
 use Rattle.sources.specs.Utf8.{is_utf8}
-use Rattle.sources.specs.Lines.{lost, lines_of, text_of, walk, judged, Outcome, broke, on_fault}
-use Rattle.sources.specs.Faults.{at_line, located, refused}
+use Rattle.sources.specs.Lines.{lines_of, walk, judged, Outcome, broke, on_fault}
+use Rattle.sources.specs.Faults.{at_line, refused}
 use Rattle.sources.specs.Rules.{Rules}
 use Rattle.sources.specs.declared.fault.Fault.{Fault}
-use Rattle.sources.specs.declared.reason.Reason.{Reason}
 use Rattle.sources.specs.declared.reason.Reason.TheVariants as reason
 use Rattle.sources.specs.declared.fault.Refusal.{Refusal}
 use Rattle.sources.specs.Rules.{verdict}
 use Rattle.sources.specs.Came.{Lined, Came}
-use Rattle.sources.specs.declared.drive.Next.TheVariants.{Line, Lost, Long, Ended, Broken}
+use Rattle.sources.specs.declared.drive.Next.TheVariants.{Line, Lost, Long}
 use Rattle.sources.proofs.Through.{through-≤}
 use Rattle.sources.proofs.Steps.{walk-some, judged-long, judged-past, judged-broken, judged-text, judged-kind}
 

@@ -1,5 +1,5 @@
 -- Numbers as `from_str_radix` reads them: digits of the base in either case, one plus before them or, at a signed type, one minus, and the type's range.
-use Rattle.std.specs.Prelude.{ℕ, ◌^◌, Bool, true, false, cond, ◌&&◌, List, [], ◌∷◌, length, ℤ, Ok, Err, Result, nat_le, nat_lt}
+use Rattle.std.specs.Prelude.{ℕ, ◌^◌, Bool, true, cond, ◌&&◌, List, [], ◌∷◌, length, ℤ, Ok, Err, Result, nat_le, nat_lt}
 use Rattle.std.specs.Str.Parse.{digits_value, signed_digits_value, without_leading_plus, without_leading_sign, starts_with_minus}
 use Rattle.std.specs.Char.{digit_value}
 use Rattle.sources.specs.declared.fault.NumberFault.{NumberFault}

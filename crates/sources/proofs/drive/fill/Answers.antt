@@ -1,6 +1,6 @@
-use Rattle.std.proofs.Common.{◌≡◌, Ok, Err, sym, refl, ap, ◌∙◌}
+use Rattle.std.proofs.Common.{Err, ap, ◌∙◌}
 use Rattle.std.proofs.lemmas.Result.{err_from_is_err_and}
-use Rattle.sources.specs.Lines.{reading, Outcome}
+use Rattle.sources.specs.Lines.{reading}
 use Rattle.sources.proofs.Closes.{closed_ok, closed_err, meaning_of}
 use Rattle.sources.proofs.drive.fill.Goals as goal
 

@@ -1,8 +1,6 @@
-use Rattle.std.proofs.Common.{◌≡◌, ℕ, ◌+◌, ◌-◌, true, false, length, take, IsUtf8, sym, refl, ap, ◌∙◌, subst, arith, length-drop, rules}
+use Rattle.std.proofs.Common.{◌≡◌, ℕ, ◌-◌, length, take, IsUtf8, sym, refl, ap, ◌∙◌, subst, arith, length-drop}
 use Rattle.std.proofs.lemmas.Result.{err_from_is_err_and}
 use Rattle.sources.specs.Lines.{course}
-use Rattle.sources.specs.Faults.{at_line, located}
-use Rattle.sources.specs.Rules.{verdict}
 use Rattle.sources.proofs.Through.{through-≤}
 use Rattle.sources.proofs.Steps.{text_true, text_false}
 use Rattle.sources.proofs.Turns.{turn_ended, turn_broken, turn_long, turn_past, turn_lost, turn_text, turn_stopped, turn_went}

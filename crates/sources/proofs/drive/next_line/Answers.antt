@@ -1,4 +1,4 @@
-use Rattle.std.proofs.Common.{◌∙◌, arith, length-drop, rules}
+use Rattle.std.proofs.Common.{◌∙◌, arith, length-drop}
 use Rattle.std.proofs.lemmas.List.{length-take}
 use Rattle.sources.proofs.Steps.{seen}
 use Rattle.sources.proofs.Next.{came_line, came_long, came_lost, came_rest}

@@ -1,4 +1,4 @@
-use Rattle.std.proofs.Common.{◌≡◌, Bool, cond, Some, None, sym, ap, ◌∙◌, arith, le-ltb, lt-ltb}
+use Rattle.std.proofs.Common.{Bool, cond, None, sym, ap, ◌∙◌, arith, lt-ltb}
 use Rattle.sources.specs.Pieces.{cut as cut_of}
 use Rattle.sources.proofs.Cuts.{split_is_cut}
 use Rattle.sources.proofs.pieces.cut.Goals as goal

@@ -1,4 +1,4 @@
-use Rattle.std.proofs.Common.{◌≡◌, ◌+◌, Bool, ◌&&◌, get_or, drop, sym, ap, ◌∙◌, rules, le-leb}
+use Rattle.std.proofs.Common.{◌+◌, Bool, ◌&&◌, get_or, drop, sym, ap, ◌∙◌, le-leb}
 use Rattle.std.proofs.lemmas.List.{take_rest}
 use Rattle.sources.specs.Records.{zeros}
 use Rattle.sources.proofs.recording.formed.Goals as goal

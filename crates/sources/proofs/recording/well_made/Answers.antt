@@ -1,4 +1,4 @@
-use Rattle.std.proofs.Common.{◌≡◌, ◌%◌, Bool, ◌&&◌, drop, sym, ap, ◌∙◌, arith}
+use Rattle.std.proofs.Common.{Bool, ◌&&◌, drop, sym, ap, ◌∙◌, arith}
 use Rattle.sources.specs.Records.{well_made, records_of, going}
 use Rattle.sources.proofs.Made.{recorded-whole, well_more, well_one, well_none}
 use Rattle.sources.proofs.recording.well_made.Goals as goal

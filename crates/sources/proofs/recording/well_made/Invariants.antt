@@ -1,4 +1,4 @@
-use Rattle.std.proofs.Common.{◌≡◌, ◌%◌, ◌<◌, length}
+use Rattle.std.proofs.Common.{◌≡◌, ◌%◌, length}
 use Rattle.sources.specs.Records.{well_made, records_of}
 use Rattle.sources.proofs.recording.well_made.Given as goal
 

@@ -1,4 +1,4 @@
-use Rattle.std.proofs.Common.{drop, arith}
+use Rattle.std.proofs.Common.{arith}
 use Rattle.sources.proofs.Through.{through-at, through-past, through-end}
 use Rattle.sources.proofs.source.reach.Goals as goal
 

@@ -1,4 +1,4 @@
-use Rattle.std.proofs.Common.{sym, ◌∙◌, inl, inr, arith, rules}
+use Rattle.std.proofs.Common.{sym, ◌∙◌, inl, inr, arith}
 use Rattle.sources.proofs.join.JoinSource.piece.Goals.{then-k-buf-via-then-k-buf, then-k-buf-via-else-k-buf+then-buf-k-eq10}
 use Rattle.sources.proofs.Joins.{join_first, join_more, join-none, join-broken, spent}
 use Rattle.sources.proofs.Steps.{none_left}

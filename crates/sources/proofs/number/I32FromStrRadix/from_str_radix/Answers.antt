@@ -1,4 +1,4 @@
-use Rattle.std.proofs.Common.{ℕ, List, ap, ◌∙◌, subst, w32}
+use Rattle.std.proofs.Common.{ℕ, ◌∙◌, subst, w32}
 use Rattle.std.specs.Str.Parse.{ParsesSigned}
 use Rattle.sources.proofs.Reading.{reads_signed}
 use Rattle.sources.proofs.number.I32FromStrRadix.from_str_radix.Goals as goal

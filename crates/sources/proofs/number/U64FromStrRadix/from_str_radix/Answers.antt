@@ -1,4 +1,4 @@
-use Rattle.std.proofs.Common.{ℕ, List, ap, ◌∙◌, subst}
+use Rattle.std.proofs.Common.{ℕ, ◌∙◌, subst}
 use Rattle.std.specs.Str.Parse.{ParsesUnsigned}
 use Rattle.sources.proofs.Reading.{reads_unsigned}
 use Rattle.sources.proofs.number.U64FromStrRadix.from_str_radix.Goals as goal

@@ -1,4 +1,4 @@
-use Rattle.std.proofs.Common.{◌≡◌, ℕ, get_or, sym, ap, ◌∙◌, arith, eq-eqb, ne_eqb}
+use Rattle.std.proofs.Common.{get_or, sym, ap, ◌∙◌, arith, eq-eqb, ne_eqb}
 use Rattle.sources.specs.Given.{ending}
 use Rattle.sources.proofs.Made.{broken_none, broken_last}
 use Rattle.sources.proofs.spool.Spool.ending.Goals as goal

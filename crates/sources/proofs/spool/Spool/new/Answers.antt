@@ -1,4 +1,4 @@
-use Rattle.std.proofs.Common.{◌≡◌, sym, ◌∙◌}
+use Rattle.std.proofs.Common.{sym, ◌∙◌}
 use Rattle.sources.proofs.Made.{to_come-start, broken_start}
 use Rattle.sources.proofs.spool.Spool.new.Goals as goal
 

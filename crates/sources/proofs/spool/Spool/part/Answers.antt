@@ -1,6 +1,6 @@
-use Rattle.std.proofs.Common.{◌≡◌, ℕ, ◌+◌, ◌-◌, List, length, take, drop, sym, refl, ap, ◌∙◌, arith, length-drop}
+use Rattle.std.proofs.Common.{◌≡◌, ℕ, ◌+◌, ◌-◌, length, take, drop, refl, ap, ◌∙◌, arith, length-drop}
 use Rattle.std.proofs.lemmas.List.{length-take}
-use Rattle.sources.specs.Bytes.{moved, through}
+use Rattle.sources.specs.Bytes.{moved}
 use Rattle.sources.proofs.Through.{through-≤}
 use Rattle.sources.proofs.Parts.{part_made}
 use Rattle.sources.proofs.spool.Spool.part.Goals as goal

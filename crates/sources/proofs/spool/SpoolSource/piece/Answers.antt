@@ -1,4 +1,4 @@
-use Rattle.std.proofs.Common.{◌≡◌, sym, refl, ap, ◌∙◌, inl, inr, arith}
+use Rattle.std.proofs.Common.{sym, ap, ◌∙◌, inl, inr}
 use Rattle.sources.specs.Records.{broken_of}
 use Rattle.sources.proofs.Parts.{told_moved, moved-end, moved_on, moved_length}
 use Rattle.sources.proofs.spool.SpoolSource.piece.Goals.{then-n-buf-via-then-n-buf, then-n-buf-via-else-n-buf+then-buf-n-eq10}

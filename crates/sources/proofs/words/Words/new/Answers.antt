@@ -1,4 +1,4 @@
-use Rattle.std.proofs.Common.{◌≡◌, IsUtf8, ap, ◌∙◌, rules}
+use Rattle.std.proofs.Common.{IsUtf8, ap, ◌∙◌, rules}
 use Rattle.sources.specs.Utf8.{is_utf8}
 use Rattle.sources.proofs.Steps.{text_true}
 use Rattle.sources.proofs.words.Words.new.Goals as goal
