@@ -1,6 +1,6 @@
 -- The course over the lines of a text, by a kind that fills slots, comes to what its last lines make.
-use Rattle.std.proofs.Common.{◌≡◌, ℕ, ◌+◌, ◌<◌, ◌≤◌, Bool, true, false, cond, not, ltb, List, [], ◌∷◌, ◌++◌, length, Some, None, Ok, Err, Option, Result, sym, refl, ap, ◌∙◌, subst, inl, inr, arith, length-append}
-use Rattle.std.proofs.lemmas.Bool.{cases_Bool, ltb-true, ltb-false, le-ltb}
+use Rattle.std.proofs.Common.{◌≡◌, ℕ, ◌+◌, ◌<◌, ◌≤◌, Bool, true, false, cond, not, ltb, List, [], ◌∷◌, length, Some, None, Ok, Err, Option, Result, sym, refl, ap, ◌∙◌, inl, inr, arith, length-append}
+use Rattle.std.proofs.lemmas.Bool.{cases_Bool, ltb-true, ltb-false}
 use Rattle.sources.specs.declared.fault.Fault.{Fault}
 use Rattle.sources.specs.declared.fault.Refusal.{Refusal}
 use Rattle.sources.specs.declared.kind.Break.{Break}
@@ -12,7 +12,7 @@ use Rattle.sources.specs.Utf8.{is_utf8}
 use Rattle.sources.proofs.Steps.{judged-long, judged-past, judged-cut, judged-text, judged-kind}
 use Rattle.sources.proofs.Walks.{ends, no}
 use Rattle.fields.specs.Slots.{entered, after_entry}
-use Rattle.fields.specs.Slotted.{State, filling, refused, settled, next_state, fault_of, slot_rules}
+use Rattle.fields.specs.Slotted.{State, filling, settled, fault_of, slot_rules}
 use Rattle.fields.specs.LastLines.{breaks, before, through, breaks_off, good, sound, Orderly, put, entries_of, last_lines}
 
 not_true : {A : Type 0} → ◌≡◌ {A = Bool} false true → A

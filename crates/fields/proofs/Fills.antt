@@ -1,5 +1,5 @@
 -- A list read cell by cell is the list read as a whole.
-use Rattle.std.proofs.Common.{◌≡◌, ℕ, suc, ◌+◌, ◌-◌, ◌<◌, ◌≤◌, Bool, true, false, cond, eqb, List, [], ◌∷◌, ◌++◌, length, set, replicate, Ok, Err, Result, sym, refl, ap, ◌∙◌, inl, inr, append_assoc, append-nil, arith, length-append, eq-eqb, ne_eqb, eqb-true}
+use Rattle.std.proofs.Common.{◌≡◌, ℕ, suc, ◌+◌, ◌-◌, ◌≤◌, cond, eqb, List, [], ◌∷◌, ◌++◌, length, set, replicate, Ok, Err, Result, sym, refl, ap, ◌∙◌, inl, inr, append_assoc, append-nil, arith, length-append, eq-eqb, ne_eqb, eqb-true}
 use lib.Seq.{set-append_seam}
 use borrow.Author.Tests.{eqb-false}
 use Rattle.std.proofs.lemmas.Bool.{cases_Bool}
@@ -10,7 +10,6 @@ use Rattle.fields.specs.declared.list.ListFault.TheVariants.{Full}
 use Rattle.fields.specs.declared.counted.Counted.{Counted}
 use Rattle.fields.specs.Counted.{counted}
 use Rattle.fields.specs.Lists.{as_item, listed, filled}
-use Rattle.fields.proofs.Cells.{counted_is}
 
 -- the pieces left, put behind what the cells hold
 abbrev pub filling : {X : Type 0} → (List ℕ → Result X NumberFault) → (n : ℕ) → List X → ℕ → List (List ℕ) → Result (Counted X n) ListFault

@@ -1,15 +1,15 @@
 -- The laws of a reading into a record, of an answer and a record that are the reading's.
-use Rattle.std.proofs.Common.{◌≡◌, ℕ, Bool, true, List, [], ◌∷◌, Some, None, Ok, Err, Option, Result, sym, refl, ap, ◌∙◌, subst, arith}
+use Rattle.std.proofs.Common.{◌≡◌, ℕ, Bool, true, List, [], ◌∷◌, Ok, Err, Option, Result, sym, refl, ap, ◌∙◌, subst, arith}
 use Rattle.sources.specs.declared.fault.Fault.{Fault}
 use Rattle.sources.specs.declared.fault.Refusal.{Refusal}
 use Rattle.sources.specs.declared.kind.Break.{Break}
 use Rattle.sources.specs.Editions.{Same}
-use Rattle.sources.specs.Lines.{lines_of, reading}
+use Rattle.sources.specs.Lines.{reading}
 use Rattle.sources.specs.Rules.{Rules}
 use Rattle.sources.proofs.Newer.{newer}
 use Rattle.fields.specs.Slots.{after_entry}
 use Rattle.fields.specs.Slotted.{State, filling, slot_rules, has_begun, foreign_aside, begins_with_any}
-use Rattle.fields.specs.LastLines.{told, recorded, into, Gives, Orderly, last_lines, ToldByLastLines, SameRecordInEditions}
+use Rattle.fields.specs.LastLines.{told, recorded, into, ToldByLastLines, SameRecordInEditions}
 use Rattle.fields.proofs.Courses.{orderly-answered, accepted_orderly}
 
 same-told : {R : Type 0} (blank : R) (x y : Result R Refusal) → Same x y → Same (told x) (told y) × (recorded blank x ≡ recorded blank y)

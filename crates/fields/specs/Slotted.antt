@@ -1,6 +1,6 @@
 -- Kinds that fill the slots of a record: their states, their rules, and the laws that these keep.
 use Rattle.std.proofs.Common.{arith, ap}
-use Rattle.std.specs.Prelude.{◌≡◌, ℕ, Bool, true, false, List, [], ◌∷◌, Some, None, Ok, Err, Option, Result, refl}
+use Rattle.std.specs.Prelude.{◌≡◌, ℕ, Bool, true, List, Some, None, Ok, Err, Option, Result, refl}
 use Rattle.sources.specs.declared.fault.Fault.{Fault}
 use Rattle.sources.specs.declared.kind.Break.{Break}
 use Rattle.sources.specs.Rules.{Rules, RefusalStays, ForeignIsAside, BeginsWithALine}
