@@ -1,6 +1,6 @@
 -- A foreign line leaves the slots as they are. (The proof stands here since an implementation of a trait can cite specs/ alone.)
 use Rattle.std.proofs.Common.{arith, ap, eqb-true}
-use Rattle.std.specs.Prelude.{◌≡◌, ℕ, Bool, true, false, eqb, List, [], ◌∷◌, Some, None, Ok, Err, Option, Result, refl}
+use Rattle.std.specs.Prelude.{◌≡◌, ℕ, true, List, [], ◌∷◌, Some, None, Ok, Err, Option, Result, refl}
 use Rattle.sources.specs.declared.fault.Fault.{Fault}
 use Rattle.fields.specs.Slots.{Entry, after_entry}
 use Rattle.status.specs.declared.record.StatusSlots.{StatusSlots}

@@ -1,5 +1,5 @@
 -- The states of a process, by the letter that stands for each.
-use Rattle.std.specs.Prelude.{ℕ, Bool, cond, Some, None, Option, ◌==◌}
+use Rattle.std.specs.Prelude.{ℕ, cond, Some, None, Option, ◌==◌}
 use Rattle.status.specs.declared.state.ProcState.{ProcState}
 use Rattle.status.specs.declared.state.ProcState.TheVariants.{Running, Sleeping, Waiting, Zombie, Stopped, Tracing, Dead, Wakekill, Waking, Parked, Idle}
 

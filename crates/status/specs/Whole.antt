@@ -1,5 +1,5 @@
 -- Values that are never wrong.
-use Rattle.std.specs.Prelude.{ℕ, Bool, List, Ok, Err, Result}
+use Rattle.std.specs.Prelude.{ℕ, Bool, List, Ok, Result}
 use Rattle.sources.specs.declared.fault.Fault.{Fault}
 use Rattle.fields.specs.declared.counted.Counted.{Counted}
 use Rattle.fields.specs.Counted.{text_of}

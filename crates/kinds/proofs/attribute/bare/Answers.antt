@@ -11,4 +11,4 @@ loop-front-preserved c =
     (u, (bare-some c.loop-front.rest.now c.in-Some.front.now (sym c.in-Some.ensures)).0 ∙ c.loop-front.invariant.1)
 
 pub returns : goal.returns
-returns c = sym (bare-none c.loop-front.rest.now (sym c.in-default.ensures)) ∙ c.loop-front.invariant.1
+returns c = sym (bare-none c.loop-front.rest.now (sym c.in_default.ensures)) ∙ c.loop-front.invariant.1
