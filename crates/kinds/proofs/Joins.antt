@@ -1,16 +1,13 @@
 -- The measure of two texts joined.
-use Rattle.std.proofs.Common.{◌≡◌, ℕ, suc, ◌+◌, ◌-◌, ◌<◌, ◌≤◌, Bool, true, false, cond, not, eqb, List, [], ◌∷◌, ◌++◌, length, get_or, take, drop, Ok, Err, sym, refl, ap, ◌∙◌, subst, arith, length-append}
-use Rattle.sources.specs.Bytes.{through}
-use Rattle.sources.specs.Lines.{lines_of, text_of, ahead, ended, long, reading}
-use Rattle.sources.specs.Utf8.{is_utf8}
+use Rattle.std.proofs.Common.{◌≡◌, ℕ, suc, ◌+◌, ◌-◌, Bool, true, false, cond, eqb, List, [], ◌∷◌, ◌++◌, length, get_or, Ok, sym, refl, ap, ◌∙◌, arith, length-append}
+use Rattle.sources.specs.Lines.{lines_of, text_of, ahead, ended, reading}
 use Rattle.sources.proofs.Split.{text_lines, lines_cons}
 use Rattle.kinds.specs.declared.sort.Key.{Key}
 use Rattle.kinds.specs.declared.sort.Key.TheVariants.{Rss, Pss, SwapPss}
 use Rattle.kinds.specs.declared.measure.Closed.{Closed}
 use Rattle.kinds.specs.Sorts.{sort_of}
 use Rattle.kinds.specs.Measure.{measure_rules, fresh}
-use Rattle.kinds.specs.Sums.{opens, sound, body, mappings_of, last_of, sum_over, total, figure, orderly, starts, closed_of, Measured, Measures, Keeps, both, whole}
-use Rattle.kinds.proofs.Steps.{by_key}
+use Rattle.kinds.specs.Sums.{opens, body, mappings_of, sum_over, total, figure, orderly, starts, closed_of, Keeps, both, whole}
 use Rattle.kinds.proofs.Measures.{reading-measures, closed_is, good-parts}
 
 ended-tail : (x y : ℕ) (ys : List ℕ) → ended (x ∷ y ∷ ys) ≡ ended (y ∷ ys)

@@ -1,5 +1,5 @@
 -- The laws of a measure, of an answer that is the reading's.
-use Rattle.std.proofs.Common.{◌≡◌, ℕ, ◌≤◌, Bool, true, false, List, ◌++◌, Ok, Err, Result, sym, refl, ap, ◌∙◌, subst, arith}
+use Rattle.std.proofs.Common.{◌≡◌, ℕ, ◌≤◌, Bool, false, List, Ok, Result, sym, refl, ap, subst, arith}
 use Rattle.sources.specs.declared.fault.Refusal.{Refusal}
 use Rattle.sources.specs.Lines.{reading, lines_of}
 use Rattle.sources.proofs.Newer.{newer}

@@ -1,14 +1,10 @@
 -- Which texts are measured, and as what.
-use Rattle.std.proofs.Common.{◌≡◌, ℕ, suc, ◌+◌, ◌-◌, ◌<◌, ◌≤◌, Bool, true, false, cond, not, List, [], ◌∷◌, ◌++◌, length, Some, None, Ok, Err, Option, Result, sym, refl, ap, ◌∙◌, subst, inl, inr, arith, length-append}
-use Rattle.std.proofs.lemmas.Bool.{cases_Bool}
-use Rattle.sources.specs.declared.fault.Fault.{Fault}
+use Rattle.std.proofs.Common.{◌≡◌, ℕ, ◌+◌, ◌≤◌, Bool, true, false, cond, List, [], ◌∷◌, length, Some, None, Ok, Option, Result, sym, refl, ap, ◌∙◌, arith, length-append}
 use Rattle.sources.specs.declared.fault.Refusal.{Refusal}
 use Rattle.sources.specs.declared.kind.Break.TheVariants.{Refuses}
-use Rattle.sources.specs.Lines.{lines_of, text_of, ended, long, judged, walk, Outcome, ending, course, reading}
-use Rattle.sources.specs.Faults.{refused, at_line}
-use Rattle.sources.specs.Rules.{Rules}
+use Rattle.sources.specs.Lines.{lines_of, text_of, long, walk, ending, course, reading}
+use Rattle.sources.specs.Faults.{at_line}
 use Rattle.sources.specs.Utf8.{is_utf8}
-use Rattle.sources.proofs.Split.{text_lines}
 use Rattle.kinds.specs.declared.sort.Key.{Key}
 use Rattle.kinds.specs.declared.sort.Key.TheVariants.{Rss, Pss, SwapPss}
 use Rattle.kinds.specs.declared.sort.Sort.{Sort}
@@ -16,12 +12,12 @@ use Rattle.kinds.specs.declared.sort.Sort.TheVariants.{Mapping, BadMapping, Sets
 use Rattle.kinds.specs.declared.measure.Figures.{Figures}
 use Rattle.kinds.specs.declared.measure.Closed.{Closed}
 use Rattle.kinds.specs.declared.measure.State.{State}
-use Rattle.kinds.specs.declared.measure.State.TheVariants.{NoMapping, InMapping, Refused}
+use Rattle.kinds.specs.declared.measure.State.TheVariants.{NoMapping, InMapping}
 use Rattle.kinds.specs.Sorts.{sort_of}
-use Rattle.kinds.specs.Measure.{none, sum_of, next, fault_of, end_of, shut, rules_at, measure_rules, fresh}
-use Rattle.kinds.specs.Sums.{opens, sound, mappings_of, sum_over, total, figure, orderly, starts, closed_of, Measured, Measures}
-use Rattle.sources.proofs.Walks.{ends, no, no_broke, Passed, judged-ok, judged-on}
-use Rattle.kinds.proofs.Steps.{rest, total-opens, count_opens, rest_over, count_over, plus, by_key, figure-none, none-some, sum_some, sum_fits, Stepped, step_sound, step_fine, some_byte}
+use Rattle.kinds.specs.Measure.{none, sum_of, next, fault_of, shut, rules_at, measure_rules, fresh}
+use Rattle.kinds.specs.Sums.{opens, sound, mappings_of, sum_over, total, figure, orderly, closed_of, Measured, Measures}
+use Rattle.sources.proofs.Walks.{ends, no, no_broke, judged-ok, judged-on}
+use Rattle.kinds.proofs.Steps.{rest, total-opens, count_opens, rest_over, count_over, figure-none, none-some, sum_some, sum_fits, Stepped, step_sound, step_fine, some_byte}
 
 text_cons : (l : List ℕ) (ls : List (List ℕ)) → length (text_of (l ∷ ls)) ≡ length l + length (text_of ls)
 unfolding text_of

@@ -1,5 +1,5 @@
 -- The laws of a status text, of the reading's own answer and record.
-use Rattle.std.proofs.Common.{◌≡◌, ℕ, Bool, List, [], ◌∷◌, Result, refl}
+use Rattle.std.proofs.Common.{◌≡◌, ℕ, Bool, List, Result, refl}
 use Rattle.sources.specs.declared.fault.Refusal.{Refusal}
 use Rattle.sources.specs.declared.kind.Break.TheVariants.{Refuses}
 use Rattle.fields.proofs.Into.{by_last_lines, same-editions}

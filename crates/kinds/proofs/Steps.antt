@@ -1,17 +1,16 @@
 -- What one line does to a measure, and to the sums over the mappings.
-use Rattle.std.proofs.Common.{◌≡◌, ℕ, suc, ◌+◌, ◌-◌, ◌<◌, ◌≤◌, Bool, true, false, cond, not, eqb, ltb, List, [], ◌∷◌, ◌++◌, length, Some, None, Option, sym, refl, ap, ◌∙◌, subst, inl, inr, arith}
-use Rattle.std.proofs.lemmas.Bool.{cases_Bool, ltb-false, ltb-true, lt-ltb, le-ltb}
-use Rattle.sources.specs.declared.fault.Fault.{Fault}
+use Rattle.std.proofs.Common.{◌≡◌, ℕ, ◌+◌, ◌<◌, ◌≤◌, Bool, true, false, cond, ltb, List, [], ◌∷◌, length, Some, None, Option, sym, refl, ap, ◌∙◌, inl, inr, arith}
+use Rattle.std.proofs.lemmas.Bool.{cases_Bool, ltb-false, lt-ltb, le-ltb}
 use Rattle.kinds.specs.declared.sort.Key.{Key}
 use Rattle.kinds.specs.declared.sort.Key.TheVariants.{Rss, Pss, SwapPss}
 use Rattle.kinds.specs.declared.sort.Sort.{Sort}
 use Rattle.kinds.specs.declared.sort.Sort.TheVariants.{Mapping, BadMapping, Sets, Aside, BadAttribute}
 use Rattle.kinds.specs.declared.measure.Figures.{Figures}
 use Rattle.kinds.specs.declared.measure.State.{State}
-use Rattle.kinds.specs.declared.measure.State.TheVariants.{NoMapping, InMapping, Refused}
+use Rattle.kinds.specs.declared.measure.State.TheVariants.{InMapping}
 use Rattle.kinds.specs.Sorts.{sort_of}
 use Rattle.kinds.specs.Measure.{none, within, if_some, sum_of, set_to, more, opened, refused_after, next, fault_of}
-use Rattle.kinds.specs.Sums.{opens, sound, body, mappings_of, same, newest, last_of, sum_over, total, figure}
+use Rattle.kinds.specs.Sums.{opens, sound, body, mappings_of, newest, last_of, sum_over, total, figure}
 
 -- what a key comes to, from a value in the mapping that is open
 abbrev pub rest : Key → ℕ → List (List ℕ) → ℕ

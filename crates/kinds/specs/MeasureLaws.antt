@@ -1,14 +1,12 @@
 -- The rules of a measure keep the laws of a kind. (The proofs stand here since an implementation of a trait can cite specs/ alone.)
-use Rattle.std.proofs.Common.{arith, sym, ap, ◌∙◌}
-use Rattle.std.specs.Prelude.{◌≡◌, ℕ, Bool, true, false, List, Some, None, Ok, Err, Option, Result, refl}
+use Rattle.std.proofs.Common.{arith, ap}
+use Rattle.std.specs.Prelude.{◌≡◌, ℕ, Bool, true, false, Some, None, Err, Option, refl}
 use Rattle.sources.specs.declared.fault.Fault.{Fault}
 use Rattle.sources.specs.Rules.{RefusalStays, ForeignIsAside, BeginsWithALine}
 use Rattle.kinds.specs.declared.sort.Sort.{Sort}
 use Rattle.kinds.specs.declared.sort.Sort.TheVariants.{Mapping, BadMapping, Sets, Aside, BadAttribute}
-use Rattle.kinds.specs.declared.measure.Figures.{Figures}
 use Rattle.kinds.specs.declared.measure.State.{State}
 use Rattle.kinds.specs.declared.measure.State.TheVariants.{NoMapping, InMapping, Refused}
-use Rattle.kinds.specs.declared.measure.Closed.{Closed}
 use Rattle.kinds.specs.Measure.{sum_of, more, opened, refused_after, next, fault_of, end_of, max_total, measure_rules, has_begun, aside, is_foreign}
 use Rattle.kinds.specs.Sorts.{sort_of}
 

@@ -1,5 +1,5 @@
 -- The measure of a text with its ending, of a recording, and of two texts joined.
-use Rattle.std.specs.Prelude.{ℕ, Bool, cond, List, Ok, Err, Result}
+use Rattle.std.specs.Prelude.{ℕ, Bool, cond, List, Err, Result}
 use Rattle.sources.specs.declared.fault.Refusal.{Refusal}
 use Rattle.sources.specs.declared.reason.Reason.TheVariants.{Spool}
 use Rattle.sources.specs.Faults.{refused}

@@ -1,7 +1,6 @@
 -- Lines and what the defined readings make of them.
-use Rattle.std.specs.Prelude.{◌≡◌, ℕ, false, List, [], ◌∷◌, ◌++◌, ℤ, negsuc, Some, None, Ok, Err, codes, Option, Result}
+use Rattle.std.specs.Prelude.{◌≡◌, ℕ, false, List, [], ◌∷◌, ◌++◌, negsuc, Some, Ok, Err, codes, Option, Result}
 use Rattle.sources.specs.declared.fault.Fault.{Fault}
-use Rattle.sources.specs.declared.fault.Refusal.{Refusal}
 use Rattle.sources.specs.declared.reason.Reason.TheVariants.{Orphan, Figure, Torn, Scale}
 use Rattle.sources.specs.Faults.{fault, refused}
 use Rattle.sources.specs.Editions.{Edition}
@@ -11,11 +10,10 @@ use Rattle.fields.specs.Slots.{kept}
 use Rattle.status.specs.declared.record.StatusSlots.{StatusSlots}
 use Rattle.status.specs.Line.{after_status}
 use Rattle.status.specs.Record.{fresh_slots}
-use Rattle.kinds.specs.declared.measure.Closed.{Closed}
 use Rattle.kinds.specs.Attribute.{Entry, entry_of}
 use Rattle.kinds.specs.Measure.{fresh, has_begun, is_foreign}
 use Rattle.kinds.specs.Measured.{measured}
-use Rattle.kinds.specs.Path.{Named, path, vsys, path_of}
+use Rattle.kinds.specs.Path.{path, vsys, path_of}
 
 -- What an attribute's line sets a key to.
 abbrev pub sets : List ℕ → ℕ → Result (Option Entry) Fault

@@ -8,4 +8,4 @@ pub mod path;
 pub mod perms;
 pub mod samples;
 pub mod sort;
-pub mod status;
+pub mod status_text;

@@ -1,6 +1,6 @@
 // The answer to a status text, as lists have it: `ok` and the 61 fields in order, or `refused`.
 use fields::counted::Counted;
-use kinds::status::read_status;
+use kinds::status_text::read_status;
 use sources::fault::Refusal;
 use sources::held::Held;
 use status::record::Status;

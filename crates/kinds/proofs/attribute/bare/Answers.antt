@@ -1,4 +1,4 @@
-use Rattle.std.proofs.Common.{◌≡◌, IsUtf8, sym, ◌∙◌, rules}
+use Rattle.std.proofs.Common.{IsUtf8, sym, ◌∙◌, rules}
 use Rattle.kinds.proofs.Colons.{bare-none, bare-some}
 use Rattle.kinds.proofs.attribute.bare.Goals as goal
 

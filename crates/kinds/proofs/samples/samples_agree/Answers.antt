@@ -1,7 +1,7 @@
-use Rattle.std.proofs.Common.{true, false, refl, arith, lit≤}
+use Rattle.std.proofs.Common.{true, false, refl, arith}
 use lib.Utf8.{encode}
 use Rattle.std.specs.Str.{chars}
-use Rattle.sources.specs.Editions.{Added, over, keep, more}
+use Rattle.sources.specs.Editions.{over, keep, more}
 use Rattle.sources.specs.Lines.{lines_of, text_of, judged, walk, course, reading}
 use Rattle.sources.specs.Utf8.{well_formed}
 use Rattle.status.specs.Line.{after_status}

@@ -6,5 +6,5 @@ at_most : (b : Bool) → cond b 2 3 ≤ 3
 at_most true = omega arith
 at_most false = omega arith
 
-pub overflow-sub-n : goal.overflow-sub-n
-overflow-sub-n c = omega (arith, c.words-behind.ensures, at_most (unitless c.trimmed-text.result.now))
+pub overflow_sub-n : goal.overflow_sub-n
+overflow_sub-n c = omega (arith, c.words_behind.ensures, at_most (unitless c.trimmed-text.result.now))

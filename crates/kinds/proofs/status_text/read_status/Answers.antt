@@ -1,4 +1,4 @@
-use Rattle.std.proofs.Common.{◌≡◌, ap, ◌∙◌}
+use Rattle.std.proofs.Common.{ap, ◌∙◌}
 use Rattle.sources.specs.Lines.{reading}
 use Rattle.fields.proofs.Into.{given}
 use Rattle.fields.specs.Slotted.{State}
@@ -6,12 +6,12 @@ use Rattle.status.specs.declared.record.StatusSlots.{StatusSlots}
 use Rattle.status.specs.Record.{blank_status}
 use Rattle.kinds.specs.StatusText.{status_rules}
 use Rattle.kinds.proofs.StatusLaws.{Shown, shown}
-use Rattle.kinds.proofs.status.read_status.Goals as goal
+use Rattle.kinds.proofs.status_text.read_status.Goals as goal
 
 pub returns : goal.returns
 returns g c =
     let broken = g.S.Source.broken c.args.source.now in
     let text = g.S.Source.rest c.args.source.now in
     let e = c.fill.ensures.reading ∙ ap (λ (m : State StatusSlots). reading status_rules broken m text) c.new-text.ensures in
-    let h = given blank_status (Shown broken text) (shown broken text) e c.blank.ensures c.put-record.ensures.answer c.put-record.ensures.holds in
+    let h = given blank_status (Shown broken text) (shown broken text) e c.blank.ensures c.put_record.ensures.answer c.put_record.ensures.holds in
     record { defined = h.defined; keeps = c.fill.ensures.keeps; lines = h.lines; editions = h.editions }
