@@ -1,24 +1,23 @@
 -- Words counted, picked and compared one after the other.
-use Rattle.std.proofs.Common.{◌≡◌, ℕ, zero, suc, ◌+◌, ◌-◌, ◌*◌, ◌<◌, ◌≤◌, Bool, true, false, cond, not, List, [], ◌∷◌, map, length, take, drop, is_some, Some, None, Option, unwrap_or, sym, refl, ap, ◌∙◌, sub-one, arith, Bor}
+use Rattle.std.proofs.Common.{◌≡◌, ℕ, zero, suc, ◌+◌, ◌-◌, ◌*◌, ◌<◌, ◌≤◌, Bool, true, false, cond, not, List, [], ◌∷◌, length, take, drop, is_some, Some, None, Option, unwrap_or, sym, refl, ap, ◌∙◌, sub-one, arith, Bor}
 use Rattle.std.specs.Option.{option_map}
 use Rattle.std.specs.Char.{is_whitespace}
-use Rattle.std.specs.Str.{chars, bytes_eq}
-use Rattle.std.specs.shelf.Text.{chars_after, bytes_after, lead_bits}
+use Rattle.std.specs.Str.{chars, chars_after, continuation_len, lead_bits, bytes_eq}
 use Rattle.std.proofs.lemmas.List.{length-map, drop-drop}
 use Rattle.sources.specs.Pieces.{bytes_of, bytes_of_2}
 use Rattle.sources.specs.White.{nth, onto, join, char_words, white_words}
 use Rattle.limits.specs.Words.{is_word, same_words, word_at}
 
-length-after : (n c : ℕ) (bs : List ℕ) → length (chars_after n c bs) ≤ length bs + 1
-length-after zero c [] = omega arith
-length-after zero c (b ∷ bs) = omega (arith, length-after (bytes_after b) (lead_bits b) bs)
-length-after (suc n) c [] = omega arith
-length-after (suc n) c (b ∷ bs) = omega (arith, length-after n (c * 64 + (b - 128)) bs)
+length-chars_after : (n c : ℕ) (bs : List ℕ) → length (chars_after n c bs) ≤ length bs + 1
+length-chars_after zero c [] = omega arith
+length-chars_after zero c (b ∷ bs) = omega (arith, length-chars_after (continuation_len b) (lead_bits b) bs)
+length-chars_after (suc n) c [] = omega arith
+length-chars_after (suc n) c (b ∷ bs) = omega (arith, length-chars_after n (c * 64 + (b - 128)) bs)
 
-length-decodes : (bs : List ℕ) → length (chars bs) ≤ length bs
+length-chars : (bs : List ℕ) → length (chars bs) ≤ length bs
 unfolding chars
-length-decodes [] = omega arith
-length-decodes (b ∷ bs) = omega (arith, length-after (bytes_after b) (lead_bits b) bs)
+length-chars [] = omega arith
+length-chars (b ∷ bs) = omega (arith, length-chars_after (continuation_len b) (lead_bits b) bs)
 
 length-onto : (c : ℕ) (ws : List (List ℕ)) → length (onto c ws) ≤ length ws + 1
 length-onto c [] = omega arith
@@ -40,7 +39,7 @@ length-char_words (c ∷ cs) =
 
 -- no more words than bytes
 pub length-words : (bs : List ℕ) → length (white_words bs) ≤ length bs
-length-words bs = simp length-map (omega (arith, length-char_words (chars bs), length-decodes bs))
+length-words bs = simp length-map (omega (arith, length-char_words (chars bs), length-chars bs))
 
 some_none : {A : Type 0} (w : List ℕ) → ◌≡◌ {A = Option (List ℕ)} (Some w) None → A
 some_none {A} w e = let z : ◌≡◌ {A = ℕ} 0 1 = cc in absurd (omega arith)

@@ -6,7 +6,7 @@
 // In a text `\\` is a backslash, and `\x` with two digits of base 16 is a byte.
 #![tactic(auto)]
 
-mod status;
+mod status_text;
 mod text;
 
 use anyhow::anyhow;
@@ -87,7 +87,7 @@ fn agrees(rt: &HostRuntime, reading: Reading, line: &str) -> anyhow::Result<bool
         Reading::Measure => measures(rt, text.as_slice(), expected)?,
         Reading::Status => same(
             rt,
-            status::answer(heap, text.as_slice())?.as_str(),
+            status_text::answer(heap, text.as_slice())?.as_str(),
             expected,
         )?,
     };

@@ -1,7 +1,4 @@
-use Rattle.fields.proofs.Told.{told}
 use Rattle.limits.proofs.words.is_word.Goals as goal
 
 pub returns-in-Some : goal.returns-in-Some
-returns-in-Some c =
-    let e = told c.eq.result c.in-Some.w.now c.args.word.now c.eq.ensures.0 c.eq.ensures.1 in
-    rw c.in-Some.is e
+returns-in-Some c = rw c.in-Some.is c.eq.ensures
