@@ -1,20 +1,9 @@
--- A test of bytes told by its two directions, and four words taken one after the other.
-use Rattle.std.proofs.Common.{◌≡◌, ℕ, suc, Bool, true, false, List, [], ◌∷◌, drop, Ok, Decides, Option, Result, sym, refl}
-use Rattle.std.specs.Str.{bytes_eq}
-use Rattle.std.proofs.lemmas.Slice.Eq.{bytes_eq-Decides}
+-- Four words taken one after the other.
+use Rattle.std.proofs.Common.{◌≡◌, ℕ, suc, List, [], ◌∷◌, drop, Ok, Option, Result, sym, refl}
 use Rattle.sources.specs.declared.fault.Fault.{Fault}
 use Rattle.sources.specs.White.{nth, white_words}
 use Rattle.fields.specs.declared.value.Four.{Four}
 use Rattle.fields.specs.Values.{word_of, four_of}
-
-told-by : {P : Type 0} (r b : Bool) → Decides b P → (r ≡ true → P) → (P → r ≡ true) → r ≡ b
-told-by true true d f g = refl
-told-by true false d f g = sym (d.1 (f refl))
-told-by false true d f g = g (d.0 refl)
-told-by false false d f g = refl
-
-pub told : (r : Bool) (xs ys : List ℕ) → (r ≡ true → xs ≡ ys) → (xs ≡ ys → r ≡ true) → r ≡ bytes_eq xs ys
-told r xs ys f g = told-by r (bytes_eq xs ys) (bytes_eq-Decides xs ys) f g
 
 nth_drop : {X : Type 0} (n : ℕ) (xs : List X) → nth (suc n) xs ≡ nth n (drop 1 xs)
 nth_drop n [] = refl
