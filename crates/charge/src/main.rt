@@ -5,10 +5,10 @@ mod report;
 
 ghost use Rattle.std.specs.Prelude.{◌≤◌, length, IfOk};
 
-use anyhow::anyhow;
 use report::{Report, charge};
 use std::io;
 use std::io::Read;
+use std::process::ExitCode;
 
 // One byte more than an input may have.
 const ROOM: usize = 65537;
@@ -40,9 +40,9 @@ fn run(rt: &HostRuntime) -> anyhow::Result<Report> {
     Ok(report)
 }
 
-fn main(rt: HostRuntime) -> anyhow::Result<()> {
+fn main(rt: HostRuntime) -> anyhow::Result<ExitCode> {
     match run(&rt)? {
-        Report::Measured(_, _) => Ok(()),
-        Report::Refused(_, _) => Err(anyhow!("refused")),
+        Report::Measured(_, _) => Ok(ExitCode::SUCCESS),
+        Report::Refused(_, _) => Ok(ExitCode::FAILURE),
     }
 }

@@ -1,6 +1,6 @@
 // Replays lists of texts with the answers expected, and prints what differs.
 //
-// The words are names of lists; `measure`, `status` or `limits` before them says how the lists that follow are read.
+// The words are names of lists; `measure` or `status` before them says how the lists that follow are read, and without it they are read as measures.
 // A line of a list is a text, a tab, and what is expected. Of a measure: `ok MAPPINGS RSS PSS SWAPPSS`, `refused NUMBER LINE`, or the class of error that procfs-core answers.
 // Of a status: `ok` and its fields, in order, or `refused NUMBER LINE FIELD`.
 // In a text `\\` is a backslash, and `\x` with two digits of base 16 is a byte.
@@ -56,26 +56,6 @@ enum Reading {
     Status,
 }
 
-// Whether a text is measured as expected; prints what differs.
-fn measures(rt: &HostRuntime, text: &[u8], expected: &str) -> anyhow::Result<bool> {
-    let r = measure(&mut Held::new(text));
-    let told = answer(rt.alloc(), &r)?;
-    if told.as_str() == expected || class(&r) == Some(expected) {
-        return Ok(true);
-    }
-    rt.println(told.as_str())?;
-    Ok(false)
-}
-
-// Whether an answer is the one expected; prints it otherwise.
-fn same(rt: &HostRuntime, told: &str, expected: &str) -> anyhow::Result<bool> {
-    if told == expected {
-        return Ok(true);
-    }
-    rt.println(told)?;
-    Ok(false)
-}
-
 // Whether a line of a list is answered as it expects.
 fn agrees(rt: &HostRuntime, reading: Reading, line: &str) -> anyhow::Result<bool> {
     let heap = rt.alloc();
@@ -83,18 +63,26 @@ fn agrees(rt: &HostRuntime, reading: Reading, line: &str) -> anyhow::Result<bool
         return Err(anyhow!("a line without a tab"));
     };
     let text = unescaped(heap, escaped.as_bytes())?;
-    let agreed = match reading {
-        Reading::Measure => measures(rt, text.as_slice(), expected)?,
-        Reading::Status => same(
-            rt,
-            status_text::answer(heap, text.as_slice())?.as_str(),
-            expected,
-        )?,
+    let told = match reading {
+        Reading::Measure => {
+            let r = measure(&mut Held::new(text.as_slice()));
+            let told = answer(heap, &r)?;
+            if told.as_str() == expected || class(&r) == Some(expected) {
+                return Ok(true);
+            }
+            told
+        }
+        Reading::Status => {
+            let told = status_text::answer(heap, text.as_slice())?;
+            if told.as_str() == expected {
+                return Ok(true);
+            }
+            told
+        }
     };
-    if !agreed {
-        rt.println(line)?;
-    }
-    Ok(agreed)
+    rt.println(line)?;
+    rt.println(told.as_str())?;
+    Ok(false)
 }
 
 fn replay(rt: &HostRuntime, reading: Reading, name: &str) -> anyhow::Result<()> {

@@ -1,4 +1,4 @@
--- White space, Unicode's `White_Space`: taken off a text, and the words between it. `decodes` and `encodes` pass between a text's bytes and its characters.
+-- White space, Unicode's `White_Space`: taken off a text, and the words between it. `chars` and `encodes` pass between a text's bytes and its characters.
 use Rattle.std.specs.Prelude.{ℕ, zero, suc, cond, List, [], ◌∷◌, map, Some, None, Option}
 use Rattle.std.proofs.Math.Utf8.{encodes}
 use Rattle.std.specs.Char.{is_whitespace}
