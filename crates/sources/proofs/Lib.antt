@@ -19,3 +19,4 @@ pub mod Leads
 pub mod Worded
 pub mod Trims
 pub mod Spaced
+pub mod Found

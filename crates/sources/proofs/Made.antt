@@ -1,125 +1,67 @@
--- What the definitions say of the first record, and of those behind it.
-use Rattle.std.proofs.Common.{◌≡◌, ℕ, suc, ◌+◌, ◌-◌, ◌/◌, ◌%◌, ◌<◌, ◌≤◌, min, Bool, true, false, ◌&&◌, eqb, List, [], ◌∷◌, ◌++◌, length, get_or, take, drop, sym, refl, ap, ◌∙◌, inl, inr, arith, length-drop, eq-eqb, ne_eqb}
-use Rattle.std.proofs.lemmas.List.{drop_more, drop_all, length-take, take_all, take-take, drop-take, drop-drop, get_or-take}
+-- What the definitions say of the first record, of those behind it, and of the last.
+use Rattle.std.proofs.Common.{◌≡◌, ℕ, ◌+◌, ◌-◌, ◌<◌, ◌≤◌, min, Bool, true, false, ◌&&◌, eqb, List, [], ◌∷◌, ◌++◌, length, get_or, take, drop, sym, refl, ap, ◌∙◌, inl, inr, arith, length-drop}
+use Rattle.std.proofs.lemmas.List.{drop_all, length-take, take_all, take-take, drop-take, drop-drop}
 use Rattle.std.proofs.lemmas.Bool.{cases_lt}
-use Rattle.sources.specs.Records.{zeros, firsts, records_of, well_made, recorded, text_of_record, text_of_records, ending_of, to_come, broken_of, after, going, last}
+use Rattle.std.specs.List.{list_all}
+use Rattle.sources.specs.Records.{text_of_record, text_of_records, to_come, well_made, going, last, ending_of}
 
-pub zeros-at : (xs : List ℕ) (i : ℕ) → i < length xs → (get_or xs i 0 ≡ 0 → ⊥) → false ≡ zeros (drop i xs)
-zeros-at xs i h e = sym (ap zeros (drop_more xs i 0 h) ∙ ap (λ (t : Bool). t && zeros (drop (i + 1) xs)) (ne_eqb (get_or xs i 0) 0 e))
+and_true : (a b : Bool) → a && b ≡ (a && true) && b
+and_true true b = refl
+and_true false b = refl
 
-pub zeros-past : (xs : List ℕ) (i : ℕ) → i < length xs → get_or xs i 0 ≡ 0 → zeros (drop i xs) ≡ zeros (drop (i + 1) xs)
-zeros-past xs i h e = ap zeros (drop_more xs i 0 h) ∙ ap (λ (t : Bool). t && zeros (drop (i + 1) xs)) (eq-eqb (get_or xs i 0) 0 e)
+and_assoc : (a b c : Bool) → a && (b && c) ≡ (a && b) && c
+and_assoc true b c = refl
+and_assoc false b c = refl
 
-pub zeros-end : (xs : List ℕ) (i : ℕ) → length xs ≤ i → true ≡ zeros (drop i xs)
-zeros-end xs i h = sym (ap zeros (drop_all i xs h))
+pub to_come-start : (rs : List (List ℕ)) → to_come rs 0 ≡ text_of_records rs
+to_come-start [] = refl
+to_come-start (r ∷ rs) = refl
 
-whole : (n : ℕ) → 64 ≤ n → n / 64 ≡ suc ((n - 64) / 64)
-whole n h = omega arith
+take_min : (a b : ℕ) (l : List ℕ) → length l ≤ b → take a l ≡ take (min a b) l
+take_min a b l k = elim (cases_lt a b) [
+  | inl h ↦ let z : min a b ≡ a = omega arith in ap (λ (i : ℕ). take i l) (sym z)
+  | inr h ↦ take_all a l (omega arith) ∙ sym (take_all (min a b) l (omega arith))
+]
 
--- the first record stands before the others
-pub records_first : (xs : List ℕ) → 64 ≤ length xs → records_of xs ≡ take 64 xs ∷ records_of (drop 64 xs)
-unfolding records_of
-records_first xs h =
-    ap (λ (k : ℕ). firsts k xs) (whole (length xs) h ∙ ap (λ (k : ℕ). suc (k / 64)) (sym (length-drop 64 xs)))
-
-pub records_none : (xs : List ℕ) → length xs < 64 → records_of xs ≡ []
-unfolding records_of
-records_none xs h = let z : length xs / 64 ≡ 0 = omega arith in ap (λ (k : ℕ). firsts k xs) z
-
-pub records_one : (xs : List ℕ) → length xs ≡ 64 → records_of xs ≡ xs ∷ []
-unfolding records_of
-records_one xs e = ap (λ (n : ℕ). firsts (n / 64) xs) e ∙ ap (λ (l : List ℕ). l ∷ []) (take_all 64 xs (omega arith))
-
-pub records_two : (xs : List ℕ) → 128 ≤ length xs → (r : List ℕ) × (rs : List (List ℕ)) × (records_of (drop 64 xs) ≡ r ∷ rs)
-records_two xs h = (take 64 (drop 64 xs), records_of (drop 64 (drop 64 xs)), records_first (drop 64 xs) (simp length-drop (omega arith)))
-
-pub records_last : (xs : List ℕ) → 64 ≤ length xs → length xs < 128 → records_of xs ≡ take 64 xs ∷ []
-records_last xs h k = records_first xs h ∙ ap (λ (rs : List (List ℕ)). take 64 xs ∷ rs) (records_none (drop 64 xs) (simp length-drop (omega arith)))
-
--- no record but the last is last
-pub well_more : (xs : List ℕ) → length xs % 64 ≡ 0 → 64 < length xs → well_made (records_of xs) ≡ going (take 64 xs) && well_made (records_of (drop 64 xs))
-well_more xs e h =
-    let t = records_two xs (omega arith) in
-    ap well_made (records_first xs (omega arith) ∙ ap (λ (rs : List (List ℕ)). take 64 xs ∷ rs) t.2)
-    ∙ ap (λ (rs : List (List ℕ)). going (take 64 xs) && well_made rs) (sym t.2)
-
-pub well_one : (xs : List ℕ) → length xs ≡ 64 → well_made (records_of xs) ≡ last xs
-well_one xs e = ap well_made (records_one xs e)
-
-pub well_none : (xs : List ℕ) → length xs < 64 → well_made (records_of xs) ≡ false
-well_none xs h = ap well_made (records_none xs h)
-
-pub recorded-whole : (xs : List ℕ) → length xs % 64 ≡ 0 → recorded xs ≡ well_made (records_of xs)
-recorded-whole xs e = ap (λ (t : Bool). t && well_made (records_of xs)) (eq-eqb (length xs % 64) 0 e)
-
-pub recorded-not : (xs : List ℕ) → (length xs % 64 ≡ 0 → ⊥) → recorded xs ≡ false
-recorded-not xs e = ap (λ (t : Bool). t && well_made (records_of xs)) (ne_eqb (length xs % 64) 0 e)
-
-start : (rs : List (List ℕ)) → after 0 rs ≡ text_of_records rs
-start [] = refl
-start (r ∷ rs) = refl
-
-pub to_come-start : (xs : List ℕ) → to_come xs 0 ≡ text_of_records (records_of xs)
-unfolding to_come
-to_come-start xs = start (records_of xs)
-
-pub broken_start : (xs : List ℕ) → broken_of xs ≡ ending_of (records_of xs)
-unfolding broken_of
-broken_start xs = refl
-
--- the text of the first record, from `used` on
-front_is : (xs : List ℕ) (u m : ℕ) → u ≤ m → m ≡ min (get_or xs 0 0) 62 → drop u (text_of_record (take 64 xs)) ≡ take (m - u) (drop (2 + u) xs)
-front_is xs u m h e =
-    let d : drop 2 (take 64 xs) ≡ take 62 (drop 2 xs) = drop-take 2 62 xs in
-    let g : get_or (take 64 xs) 0 0 ≡ get_or xs 0 0 = get_or-take 64 xs 0 0 (omega arith) in
+-- the text of a record, from `used` on
+pub text_from : (r : List ℕ) (u m : ℕ) → length r ≡ 64 → u ≤ m → m ≡ min (get_or r 0 0) 62 → drop u (text_of_record r) ≡ take (m - u) (drop (2 + u) r)
+text_from r u m l h e =
     let k : u + (m - u) ≡ m = omega arith in
-    ap (λ (l : List ℕ). drop u (take (get_or (take 64 xs) 0 0) l)) d
-    ∙ ap (λ (i : ℕ). drop u (take i (take 62 (drop 2 xs)))) g
-    ∙ ap (drop u) (take_min (get_or xs 0 0) 62 (drop 2 xs) ∙ ap (λ (i : ℕ). take i (drop 2 xs)) (sym e ∙ sym k))
-    ∙ drop-take u (m - u) (drop 2 xs)
-    ∙ ap (take (m - u)) (drop-drop u 2 xs)
-  where
-    take_min : (a b : ℕ) (l : List ℕ) → take a (take b l) ≡ take (min a b) l
-    take_min a b l = elim (cases_lt a b) [
-      | inl h ↦ let z : min a b ≡ a = omega arith in take-take a b l (omega arith) ∙ ap (λ (i : ℕ). take i l) (sym z)
-      | inr h ↦ let z : min a b ≡ b = omega arith in take_all a (take b l) (simp length-take (omega arith)) ∙ ap (λ (i : ℕ). take i l) (sym z)
-    ]
+    ap (drop u) (take_min (get_or r 0 0) 62 (drop 2 r) (simp length-drop (omega arith)) ∙ ap (λ (i : ℕ). take i (drop 2 r)) (sym e ∙ sym k))
+    ∙ drop-take u (m - u) (drop 2 r)
+    ∙ ap (take (m - u)) (drop-drop u 2 r)
 
-pub to_come-is : (xs : List ℕ) (u m : ℕ) → 64 ≤ length xs → u ≤ m → m ≡ min (get_or xs 0 0) 62 → to_come xs u ≡ take (m - u) (drop (2 + u) xs) ++ text_of_records (records_of (drop 64 xs))
-unfolding to_come
-to_come-is xs u m l h e = ap (after u) (records_first xs l) ∙ ap (λ (a : List ℕ). a ++ text_of_records (records_of (drop 64 xs))) (front_is xs u m h e)
-
-given : (xs : List ℕ) (u : ℕ) → min (get_or xs 0 0) 62 ≤ u → drop u (text_of_record (take 64 xs)) ≡ []
-given xs u h =
-    drop_all u (text_of_record (take 64 xs)) (
-    let g : get_or (take 64 xs) 0 0 ≡ get_or xs 0 0 = get_or-take 64 xs 0 0 (omega arith) in
-    let a = length-take (get_or (take 64 xs) 0 0) (drop 2 (take 64 xs)) in
-    let b = length-drop 2 (take 64 xs) in
-    let d = length-take 64 xs in
+-- nothing is left of a record
+pub text_given : (r : List ℕ) (u : ℕ) → length r ≡ 64 → min (get_or r 0 0) 62 ≤ u → drop u (text_of_record r) ≡ []
+text_given r u l h =
+    drop_all u (text_of_record r) (
+    let a = length-take (get_or r 0 0) (drop 2 r) in
+    let b = length-drop 2 r in
     omega arith)
 
--- nothing is left of the first record
-pub to_come-next : (xs : List ℕ) (u : ℕ) → 64 ≤ length xs → min (get_or xs 0 0) 62 ≤ u → to_come xs u ≡ to_come (drop 64 xs) 0
-unfolding to_come
-to_come-next xs u l h = ap (after u) (records_first xs l) ∙ ap (λ (a : List ℕ). a ++ text_of_records (records_of (drop 64 xs))) (given xs u h) ∙ sym (start (records_of (drop 64 xs)))
+-- Records of which all but the last are followed by others.
+pub well_made_end : (rs : List (List ℕ)) (r : List ℕ) → well_made (rs ++ (r ∷ [])) ≡ list_all going rs && last r
+well_made_end [] r = refl
+well_made_end (s ∷ []) r = and_true (going s) (last r)
+well_made_end (s ∷ t ∷ rs) r = ap (λ (b : Bool). going s && b) (well_made_end (t ∷ rs) r) ∙ and_assoc (going s) (list_all going (t ∷ rs)) (last r)
 
-pub to_come-none : (xs : List ℕ) (u : ℕ) → length xs < 64 → to_come xs u ≡ []
-unfolding to_come
-to_come-none xs u h = ap (after u) (records_none xs h)
+-- The ending is told by the last record.
+pub ending-end : (rs : List (List ℕ)) (r : List ℕ) → ending_of (rs ++ (r ∷ [])) ≡ eqb (get_or r 1 0) 2
+ending-end [] r = refl
+ending-end (s ∷ []) r = refl
+ending-end (s ∷ t ∷ rs) r = ending-end (t ∷ rs) r
 
-pub to_come-last : (xs : List ℕ) (u : ℕ) → 64 ≤ length xs → length xs < 128 → min (get_or xs 0 0) 62 ≤ u → to_come xs u ≡ []
-to_come-last xs u l k h = to_come-next xs u l h ∙ to_come-none (drop 64 xs) 0 (simp length-drop (omega arith))
+pub to_come-next : {rs : List (List ℕ)} {r : List ℕ} {others : List (List ℕ)} (u : ℕ) → rs ≡ r ∷ others → length r ≡ 64 → min (get_or r 0 0) 62 ≤ u → to_come rs u ≡ to_come others 0
+to_come-next {rs} {r} {others} u e l h = ap (λ (l : List (List ℕ)). to_come l u) e ∙ ap (λ (t : List ℕ). t ++ text_of_records others) (text_given r u l h) ∙ sym (to_come-start others)
 
-pub broken_next : (xs : List ℕ) → 128 ≤ length xs → broken_of (drop 64 xs) ≡ broken_of xs
-unfolding broken_of
-broken_next xs h =
-    let t = records_two xs h in
-    ap ending_of t.2 ∙ sym (ap ending_of (records_first xs (omega arith) ∙ ap (λ (rs : List (List ℕ)). take 64 xs ∷ rs) t.2))
+pub to_come-last : {rs : List (List ℕ)} {r : List ℕ} {others : List (List ℕ)} (u : ℕ) → rs ≡ r ∷ others → length r ≡ 64 → min (get_or r 0 0) 62 ≤ u → length others ≡ 0 → to_come rs u ≡ []
+to_come-last {others = []} u e l h z = to_come-next u e l h
+to_come-last {others = s ∷ others} u e l h z = absurd (omega arith)
 
-pub broken_none : (xs : List ℕ) → length xs < 64 → broken_of xs ≡ false
-unfolding broken_of
-broken_none xs h = ap ending_of (records_none xs h)
+pub ending-next : {rs : List (List ℕ)} {r : List ℕ} {others : List (List ℕ)} → rs ≡ r ∷ others → 0 < length others → ending_of others ≡ ending_of rs
+ending-next {others = []} e h = absurd (omega arith)
+ending-next {others = s ∷ others} e h = sym (ap ending_of e)
 
-pub broken_last : (xs : List ℕ) → 64 ≤ length xs → length xs < 128 → broken_of xs ≡ eqb (get_or xs 1 0) 2
-unfolding broken_of
-broken_last xs h k = ap ending_of (records_last xs h k) ∙ ap (λ (b : ℕ). eqb b 2) (get_or-take 64 xs 1 0 (omega arith))
+-- the text to come, where the first record has some: that, from `used` on and up to its end m, and then the other records'
+pub to_come-here : {rs : List (List ℕ)} {r : List ℕ} {others : List (List ℕ)} (u m : ℕ) → rs ≡ r ∷ others → length r ≡ 64 → u ≤ m → m ≡ min (get_or r 0 0) 62 → to_come rs u ≡ take (m - u) (drop (2 + u) r) ++ text_of_records others
+to_come-here {rs} {r} {others} u m e l h q = ap (λ (l : List (List ℕ)). to_come l u) e ∙ ap (λ (t : List ℕ). t ++ text_of_records others) (text_from r u m l h q)

@@ -11,7 +11,6 @@ use Rattle.sources.proofs.Through.{through-≤, through-some}
 use Rattle.sources.proofs.Split.{through-first}
 use Rattle.sources.proofs.Answered.{given_bytes, given_end}
 use Rattle.sources.specs.Records.{Part, to_come, text_of_records, records_of}
-use Rattle.sources.proofs.Made.{to_come-is}
 
 pub through-front : (xs ys : List ℕ) → through xs ≤ through (xs ++ ys)
 through-front [] ys = omega arith
@@ -19,30 +18,28 @@ through-front (x ∷ xs) ys =
     let ih = through-front xs ys in
     elim (eqb x 10) as (λ t. cond t 1 (suc (through xs)) ≤ cond t 1 (suc (through (xs ++ ys)))) [ true ↦ omega arith | false ↦ omega arith ]
 
-pub part_made : (buf xs : List ℕ) (u m k : ℕ) (buf' : List ℕ) → 64 ≤ length xs → u < m → m ≡ min (get_or xs 0 0) 62 → 0 < length buf →
-    k ≡ moved (length buf) (take (m - u) (drop (2 + u) xs)) → buf' ≡ take k (drop (2 + u) xs) ++ drop k buf → Part buf (to_come xs u) k buf' (to_come xs (u + k))
-part_made buf xs u m k buf' l h e b i f =
-    let ys : List ℕ = drop (2 + u) xs in
-    let front : List ℕ = take (m - u) ys in
-    let more : List ℕ = text_of_records (records_of (drop 64 xs)) in
-    let a : to_come xs u ≡ front ++ more = to_come-is xs u m l (omega arith) e in
-    let n : length front ≡ m - u = length-take-le (m - u) ys (simp length-drop (omega arith)) in
+-- k bytes of the text `front`, which `more` follows, moved
+pub part_made : {text text' : List ℕ} (buf front more : List ℕ) (k : ℕ) (buf' : List ℕ) → text ≡ front ++ more → text' ≡ drop k front ++ more → 0 < length front → 0 < length buf → k ≡ moved (length buf) front → buf' ≡ take k front ++ drop k buf → Part buf text k buf' text'
+part_made {text} {text'} buf front more k buf' e e' h b i f =
     let t = through-≤ front in
-    let s = through-some front (omega arith) in
-    let q : k ≤ length front = omega arith in
+    let s = through-some front h in
     let v = through-front front more in
+    let q : k ≤ length front = omega arith in
+    rw (e, e') (record {
+      some = omega arith;
+      within = omega arith;
+      line = omega arith;
+      fills = f ∙ ap (λ (j : List ℕ). j ++ drop k buf) (sym (take-append-le k front more q));
+      moves = sym (drop-append-le k front more q);
+    })
+
+-- the text of a record, k bytes further on
+pub further : (r : List ℕ) (u m k : ℕ) → u + k ≤ m → drop k (take (m - u) (drop (2 + u) r)) ≡ take (m - (u + k)) (drop (2 + (u + k)) r)
+further r u m k h =
     let w : k + ((m - u) - k) ≡ m - u = omega arith in
     let z : (m - u) - k ≡ m - (u + k) = omega arith in
     let y : (2 + u) + k ≡ 2 + (u + k) = omega arith in
-    let o : take k (to_come xs u) ≡ take k ys = ap (take k) a ∙ take-append-le k front more q ∙ take-take k (m - u) ys (omega arith) in
-    let d : drop k front ≡ take (m - (u + k)) (drop (2 + (u + k)) xs) = ap (λ (j : ℕ). drop k (take j ys)) (sym w) ∙ drop-take k ((m - u) - k) ys ∙ ap (λ (j : ℕ). take j (drop k ys)) z ∙ ap (take (m - (u + k))) (drop-drop k (2 + u) xs ∙ ap (λ (j : ℕ). drop j xs) y) in
-    record {
-      some = omega arith;
-      within = omega arith;
-      line = rw a (omega arith);
-      fills = f ∙ ap (λ (j : List ℕ). j ++ drop k buf) (sym o);
-      moves = to_come-is xs (u + k) m l (omega arith) e ∙ ap (λ (j : List ℕ). j ++ more) (sym d) ∙ sym (drop-append-le k front more q) ∙ ap (drop k) (sym a);
-    }
+    ap (λ (j : ℕ). drop k (take j (drop (2 + u) r))) (sym w) ∙ drop-take k ((m - u) - k) (drop (2 + u) r) ∙ ap (λ (j : ℕ). take j (drop k (drop (2 + u) r))) z ∙ ap (take (m - (u + k))) (drop-drop k (2 + u) r ∙ ap (λ (j : ℕ). drop j r) y)
 
 -- n bytes of `text` were moved to the front of a buffer that was `buf` and is `buf'`; none of them is 10, and `text'` is left
 pub record Filled (buf text : List ℕ) (n : ℕ) (buf' text' : List ℕ) : Type 0 where
@@ -159,8 +156,3 @@ moved_length {buf} {text} {n} {buf'} {text'} m =
     let t = through-≤ text in
     let l : length (take n text) ≡ n = length-take-le n text (omega (arith, m.line)) in
     ap length m.fills ∙ simp (length-append, length-drop) (omega (arith, m.within))
-
--- the bytes left were told in another way
-pub told_moved : {buf text : List ℕ} {n : ℕ} {buf' text' : List ℕ} {k : ℕ} {t2 buf2 text'' : List ℕ} → Filled buf text n buf' text' → t2 ≡ text' → Part (take (length buf' - n) (drop n buf')) t2 k buf2 text'' →
-    Moved buf text (n + k) (put_mid n (length buf' - n) buf' buf2) text''
-told_moved {buf} {text} {n} {buf'} {text'} {k} {t2} {buf2} {text''} f e p = more-moved f refl (rw e at p)

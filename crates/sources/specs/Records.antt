@@ -1,5 +1,7 @@
 -- A recording: records of 64 bytes, and the text and the ending that they make.
-use Rattle.std.specs.Prelude.{◌≡◌, ℕ, zero, suc, ◌+◌, ◌/◌, ◌%◌, ◌<◌, ◌≤◌, Bool, true, false, ◌&&◌, ◌||◌, List, [], ◌∷◌, ◌++◌, length, take, drop, ◌==◌, nat_le, slice_index}
+use Rattle.std.specs.Prelude.{◌≡◌, ℕ, ◌+◌, ◌/◌, ◌%◌, ◌<◌, ◌≤◌, Bool, true, false, ◌&&◌, ◌||◌, List, [], ◌∷◌, ◌++◌, length, take, drop, ◌==◌, nat_le, slice_index}
+use Rattle.std.specs.List.{list_all}
+use Rattle.std.specs.Simd.{first_chunks}
 use Rattle.sources.specs.Bytes.{through}
 
 -- Byte 0 of a record: how many text bytes it has.
@@ -15,20 +17,15 @@ abbrev pub text_of_record : List ℕ → List ℕ
 text_of_record r = take (size r) (drop 2 r)
 
 abbrev pub zeros : List ℕ → Bool
-zeros [] = true
-zeros (b ∷ bs) = b == 0 && zeros bs
+zeros bs = list_all (λ b. b == 0) bs
 
 -- At most 62 text bytes, then zeros.
 abbrev pub formed : List ℕ → Bool
 formed r = nat_le (size r) 62 && zeros (drop (2 + size r) r)
 
--- The first k records.
-abbrev pub firsts : ℕ → List ℕ → List (List ℕ)
-firsts zero r = []
-firsts (suc k) r = take 64 r ∷ firsts k (drop 64 r)
-
+-- The records that bytes begin with: as many as there are whole ones.
 unfoldable pub records_of : List ℕ → List (List ℕ)
-records_of r = firsts (length r / 64) r
+records_of bytes = first_chunks 64 (length bytes / 64) bytes
 
 -- A record that others follow.
 abbrev pub going : List ℕ → Bool
@@ -59,15 +56,9 @@ abbrev pub recorded : List ℕ → Bool
 recorded bytes = length bytes % 64 == 0 && well_made (records_of bytes)
 
 -- The bytes to come of records, with `used` bytes of the first given.
-abbrev pub after : ℕ → List (List ℕ) → List ℕ
-after used [] = []
-after used (r ∷ rs) = drop used (text_of_record r) ++ text_of_records rs
-
-unfoldable pub to_come : List ℕ → ℕ → List ℕ
-to_come bytes used = after used (records_of bytes)
-
-unfoldable pub broken_of : List ℕ → Bool
-broken_of bytes = ending_of (records_of bytes)
+abbrev pub to_come : List (List ℕ) → ℕ → List ℕ
+to_come [] used = []
+to_come (r ∷ rs) used = drop used (text_of_record r) ++ text_of_records rs
 
 -- What moving bytes of one record does: `buf` and `xs` before, `buf'` and `xs'` after.
 pub record Part (buf xs : List ℕ) (k : ℕ) (buf' xs' : List ℕ) : Type 0 where

@@ -58,12 +58,9 @@ impl Refusal {
 pub fn at_line<T>(r: Result<T, Fault>, line: u32) -> Result<T, Refusal>
     ensures { result ≡ at_line line r }
 {
-    match r {
-        Ok(v) => Ok(v),
-        Err(f) => Err(Refusal {
-            reason: f.reason,
-            line,
-            field: f.field,
-        }),
-    }
+    r.map_err(|f| Refusal {
+        reason: f.reason,
+        line,
+        field: f.field,
+    })
 }

@@ -1,6 +1,4 @@
 ghost use Rattle.std.specs.Prelude.{◌≡◌, ℕ, List, Result as ResultOf};
-ghost use Rattle.std.specs.Option.{ok_or};
-ghost use Rattle.std.specs.Result.{result_ok};
 ghost use Rattle.sources.specs.declared.fault.NumberFault.{NumberFault as FaultOf};
 ghost use Rattle.sources.specs.declared.fault.NumberFault.TheVariants.{Unreadable};
 ghost use Rattle.sources.specs.declared.number.Radix.{Radix as RadixOf};
@@ -38,20 +36,20 @@ pub trait FromStrRadix: Sized {
         ensures { result ≡ reading radix t.now };
 }
 
-fn readable<T>(r: Result<T, ParseIntError>) -> Result<T, NumberFault>
-    ensures { result ≡ ok_or (result_ok r) Unreadable }
-{
-    match r {
-        Ok(n) => Ok(n),
-        Err(_) => Err(NumberFault::Unreadable),
+impl From<ParseIntError> for NumberFault {
+    ghost from_gives = { λ _ r. r ≡ Unreadable };
+
+    fn from(_error: ParseIntError) -> NumberFault {
+        NumberFault::Unreadable
     }
 }
 
+// An impl for each type, since std reads each type by a function of that type's own.
 impl FromStrRadix for u64 {
     ghost reading = { unsigned 64 };
 
     fn from_str_radix(t: &str, radix: Radix) -> Result<u64, NumberFault> {
-        readable(u64::from_str_radix(t, radix.base()))
+        u64::from_str_radix(t, radix.base()).map_err(NumberFault::from)
     }
 }
 
@@ -59,7 +57,7 @@ impl FromStrRadix for u32 {
     ghost reading = { unsigned 32 };
 
     fn from_str_radix(t: &str, radix: Radix) -> Result<u32, NumberFault> {
-        readable(u32::from_str_radix(t, radix.base()))
+        u32::from_str_radix(t, radix.base()).map_err(NumberFault::from)
     }
 }
 
@@ -67,7 +65,7 @@ impl FromStrRadix for i32 {
     ghost reading = { signed 31 };
 
     fn from_str_radix(t: &str, radix: Radix) -> Result<i32, NumberFault> {
-        readable(i32::from_str_radix(t, radix.base()))
+        i32::from_str_radix(t, radix.base()).map_err(NumberFault::from)
     }
 }
 
@@ -75,6 +73,6 @@ impl FromStrRadix for i64 {
     ghost reading = { signed 63 };
 
     fn from_str_radix(t: &str, radix: Radix) -> Result<i64, NumberFault> {
-        readable(i64::from_str_radix(t, radix.base()))
+        i64::from_str_radix(t, radix.base()).map_err(NumberFault::from)
     }
 }

@@ -1,62 +1,40 @@
-ghost use Rattle.std.specs.Prelude.{◌≡◌, length};
-ghost use Rattle.sources.specs.Records.{recorded, formed as formed_of, zeros as «zeros_of», going as going_of, last as «last_of»};
+ghost use Rattle.std.specs.Prelude.{◌≡◌, MatchOption, true, false};
+ghost use Rattle.sources.specs.Records.{recorded, records_of, formed as formed_of, going as going_of, last as «last_of»};
 
-// Whether every byte is 0.
-fn zeros(bytes: &[u8]) -> bool
-    ensures { result ≡ «zeros_of» bytes.now }
-{
-    let mut i = 0;
-    while i < bytes.len() {
-        if bytes[i] != 0 {
-            return false;
-        }
-        i += 1;
-    }
-    true
-}
+// One record of a recording.
+pub type Record = [u8; 64];
 
 // Whether a record has at most 62 text bytes, and zeros behind them.
-fn formed(one: &[u8]) -> bool
-    requires { length one.now ≡ 64 }
+fn formed(one: &Record) -> bool
     ensures { result ≡ formed_of one.now }
 {
-    let n = one[0] as usize;
-    n <= 62 && zeros(&one[2 + n..])
+    let n = usize::from(one[0]);
+    n <= 62 && one[2 + n..].iter().all(|b| *b == 0)
 }
 
 // A record that others follow.
-fn going(one: &[u8]) -> bool
-    requires { length one.now ≡ 64 }
+fn going(one: &Record) -> bool
     ensures { result ≡ going_of one.now }
 {
     formed(one) && one[1] == 0
 }
 
 // The last record.
-fn last(one: &[u8]) -> bool
-    requires { length one.now ≡ 64 }
+fn last(one: &Record) -> bool
     ensures { result ≡ «last_of» one.now }
 {
     formed(one) && (one[1] == 1 || one[1] == 2)
 }
 
-// Whether bytes are a recording.
-pub fn well_made(recording: &[u8]) -> bool
-    ensures { result ≡ recorded recording.now }
+// The records of a recording, where bytes are one.
+pub fn records_in(bytes: &[u8]) -> Option<&[Record]>
+    ensures { MatchOption result (recorded bytes.now ≡ false) (λ records. (recorded bytes.now ≡ true) × (records.now ≡ records_of bytes.now)) }
 {
-    if recording.len() % 64 != 0 {
-        return false;
+    let (records, rest) = bytes.as_chunks::<64>();
+    let (end, before) = records.split_last()?;
+    if rest.is_empty() && before.iter().all(going) && last(end) {
+        Some(records)
+    } else {
+        None
     }
-    let mut left = recording;
-    while left.len() > 64 {
-        let (first, more) = left.split_at(64);
-        if !going(first) {
-            return false;
-        }
-        left = more;
-    }
-    if left.len() < 64 {
-        return false;
-    }
-    last(left)
 }

@@ -3,7 +3,8 @@ ghost use Rattle.sources.specs.Bytes.{moved};
 ghost use Rattle.sources.specs.Given.{Given};
 
 // What one call of `piece` answers: bytes moved, or the ending, clean or broken.
-#[derive(Clone, Copy)]
+// No Result: an ending is no error, and all three are matched side by side.
+#[derive(Clone, Copy, PartialEq, Eq, Debug)]
 pub enum Piece {
     Bytes(usize),
     Ended,
@@ -25,13 +26,9 @@ pub trait Source {
 pub fn reach(bytes: &[u8], room: usize) -> usize
     ensures { result ≡ moved room bytes.now }
 {
-    let mut n = 0;
-    while n < room && n < bytes.len() {
-        let b = bytes[n];
-        n += 1;
-        if b == 10 {
-            return n;
-        }
+    let front = &bytes[..bytes.len().min(room)];
+    match front.iter().position(|b| *b == 10) {
+        Some(i) => i + 1,
+        None => front.len(),
     }
-    n
 }

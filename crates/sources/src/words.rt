@@ -13,12 +13,9 @@ use std::str::SplitWhitespace;
 fn word_len(text: &[u8]) -> usize
     ensures { result ≡ prefix_len in_word text.now }
 {
-    for (i, b) in text.iter().enumerate() {
-        if b.is_ascii_whitespace() {
-            return i;
-        }
-    }
-    text.len()
+    text.iter()
+        .position(|b| b.is_ascii_whitespace())
+        .unwrap_or(text.len())
 }
 
 // The first word between ASCII white bytes, and what follows it.

@@ -1,12 +1,21 @@
-use Rattle.std.proofs.Common.{arith}
-use Rattle.sources.proofs.Through.{through-at, through-past, through-end}
+use Rattle.std.proofs.Common.{◌≡◌, ◌+◌, Bool, cond, eqb, ltb, Some, None, length, take, sym, ap, ◌∙◌, arith, rules, tests, lt-ltb, le-ltb}
+use Rattle.std.proofs.lemmas.Iterator.{YieldsList-from_slice}
+use Rattle.std.proofs.lemmas.Iterator.Search.{position_from_yields_List}
+use Rattle.std.specs.List.{position_or_len}
+use Rattle.sources.proofs.Found.{found_some, found_none}
+use Rattle.sources.proofs.Through.{through-is, through-take, through-≤}
 use Rattle.sources.proofs.source.reach.Goals as goal
 
-pub returns-then-b-eq10 : goal.returns-then-b-eq10
-returns-then-b-eq10 c = omega (arith, through-at c.args.bytes.now c.loop-n.n (omega arith) c.if-b-eq10.true)
+pub returns-in-Some : goal.returns-in-Some
+returns-in-Some c =
+    let q = position_from_yields_List (λ b. eqb b 10) _ _ c.position.result c.position.ensures.ran (YieldsList-from_slice (take c.min.result c.args.bytes.now) c.iter.ensures.rest) (λ x b q k. search (rules, tests)) in
+    let f = found_some c.in-Some.i _ _ q c.in-Some.is in
+    let t = through-is (take c.min.result c.args.bytes.now) ∙ ap (λ (b : Bool). cond b (position_or_len (λ b. eqb b 10) (take c.min.result c.args.bytes.now) + 1) (length (take c.min.result c.args.bytes.now))) (lt-ltb _ _ f.1) in
+    omega (arith, through-take c.min.result c.args.bytes.now, through-≤ c.args.bytes.now)
 
-pub loop-n-preserved : goal.loop-n-preserved
-loop-n-preserved c = (omega arith, omega (arith, through-past c.args.bytes.now c.loop-n.n (omega arith) c.if-b-eq10.false))
-
-pub returns-else-n-bytes : goal.returns-else-n-bytes
-returns-else-n-bytes c = omega (arith, through-end c.args.bytes.now c.loop-n.n (omega arith))
+pub returns-in-None : goal.returns-in-None
+returns-in-None c =
+    let q = position_from_yields_List (λ b. eqb b 10) _ _ c.position.result c.position.ensures.ran (YieldsList-from_slice (take c.min.result c.args.bytes.now) c.iter.ensures.rest) (λ x b q k. search (rules, tests)) in
+    let f = found_none _ _ q c.in-None.is in
+    let t = through-is (take c.min.result c.args.bytes.now) ∙ ap (λ (b : Bool). cond b (position_or_len (λ b. eqb b 10) (take c.min.result c.args.bytes.now) + 1) (length (take c.min.result c.args.bytes.now))) (le-ltb _ _ f) in
+    omega (arith, through-take c.min.result c.args.bytes.now, through-≤ c.args.bytes.now)

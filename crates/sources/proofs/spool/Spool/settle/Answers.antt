@@ -1,17 +1,13 @@
-use Rattle.std.proofs.Common.{ℕ, List, sym, ap, ◌∙◌, arith}
-use Rattle.std.proofs.lemmas.List.{take_rest}
-use Rattle.sources.specs.Records.{to_come, broken_of}
-use Rattle.sources.proofs.Made.{to_come-none, to_come-last, to_come-next, broken_next}
+use Rattle.std.proofs.Common.{◌∙◌, sym, arith}
+use Rattle.std.proofs.lemmas.Bool.Decides.{nat_tests}
+use Rattle.sources.proofs.Made.{to_come-next, to_come-last, ending-next}
 use Rattle.sources.proofs.spool.Spool.settle.Goals as goal
 
-pub returns-then-self-lt64 : goal.returns-then-self-lt64
-returns-then-self-lt64 c = record { same = c.loop-self.invariant.0; keeps = c.loop-self.invariant.1; more = (to_come-none c.loop-self.self.records.now c.loop-self.self.used (omega arith), omega arith) }
+pub returns-then-is_empty-clause-more : goal.returns-then-is_empty-clause-more
+returns-then-is_empty-clause-more c = to_come-last c.loop-one.self.used c.in-Some.ensures.cases.0 (omega arith) (omega arith) (grind (arith, nat_tests))
 
-pub returns-then-self-lt128 : goal.returns-then-self-lt128
-returns-then-self-lt128 c = record { same = c.loop-self.invariant.0; keeps = c.loop-self.invariant.1; more = (to_come-last c.loop-self.self.records.now c.loop-self.self.used (omega arith) (omega arith) (omega arith), omega arith) }
-
-pub loop-self-preserved : goal.loop-self-preserved
-loop-self-preserved c = (
-  ap (λ (l : List ℕ). to_come l 0) (take_rest c.loop-self.self.records.now 64) ∙ sym (to_come-next c.loop-self.self.records.now c.loop-self.self.used (omega arith) (omega arith)) ∙ c.loop-self.invariant.0,
-  ap broken_of (take_rest c.loop-self.self.records.now 64) ∙ broken_next c.loop-self.self.records.now (omega arith) ∙ c.loop-self.invariant.1,
+pub loop-one-preserved : goal.loop-one-preserved
+loop-one-preserved c = (
+  sym (to_come-next c.loop-one.self.used c.in-Some.ensures.cases.0 (omega arith) (omega arith)) ∙ c.loop-one.invariant.0,
+  ending-next c.in-Some.ensures.cases.0 (grind (arith, nat_tests)) ∙ c.loop-one.invariant.1,
 )

@@ -1,12 +1,12 @@
 use Rattle.std.proofs.Common.{◌≡◌, ◌-◌, length}
-use Rattle.sources.specs.Records.{to_come, broken_of}
+use Rattle.sources.specs.Records.{to_come, ending_of}
 use Rattle.sources.proofs.Parts.{Filled}
 use Rattle.sources.proofs.spool.SpoolSource.piece.Given as goal
 
-abbrev pub invariant-loop-self : goal.invariant-loop-self
-invariant-loop-self l =
+abbrev pub invariant-loop-k : goal.invariant-loop-k
+invariant-loop-k l =
     Filled l.initial.buf (to_come l.initial.self.records.now l.initial.self.used) l.n l.buf (to_come l.self.records.now l.self.used)
-    × (broken_of l.self.records.now ≡ broken_of l.initial.self.records.now)
+    × (ending_of l.self.records.now ≡ ending_of l.initial.self.records.now)
 
-abbrev pub decreases-loop-self : goal.decreases-loop-self
-decreases-loop-self l = length l.initial.buf - l.n
+abbrev pub decreases-loop-k : goal.decreases-loop-k
+decreases-loop-k l = length l.initial.buf - l.n
