@@ -27,7 +27,7 @@ fn broke<K: Kind>(taken: u32) -> Result<u32, Refusal>
     requires { taken ≤ 268435456 }
     ensures { result ≡ broke_of K.Kind.rules.on_break taken }
 {
-    match K::at_break() {
+    match K::BREAK {
         Break::Ends => Ok(taken),
         Break::Refuses => Err(Refusal::new(Reason::Broken, taken + 1)),
     }

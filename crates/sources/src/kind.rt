@@ -1,4 +1,5 @@
 ghost use Rattle.std.specs.Prelude.{◌≡◌, ℕ, Bool, List};
+ghost use Rattle.sources.specs.declared.kind.Break.{Break as BreakOf};
 ghost use Rattle.sources.specs.Rules.{Rules, verdict as verdict_of, RefusalStays, ForeignIsAside, BeginsWithALine};
 
 use crate::fault::Fault;
@@ -16,6 +17,8 @@ pub trait Kind: Sized {
 
     const BREAK: Break;
 
+    ghost BREAK: { BreakOf };
+
     ghost Meaning: { Type 0 };
 
     ghost means: { Self → Meaning };
@@ -28,29 +31,27 @@ pub trait Kind: Sized {
     // Which lines are foreign.
     ghost foreign: { List ℕ → Bool };
 
-    // The laws that the rules keep.
+    // What a kind that writes to lent memory keeps: which memory it is.
+    ghost frame: { Self → Self → Type 0 };
+
+    fn take(&mut self, line: &str) -> Result<(), Fault>
+        ensures next { means self.new ≡ rules.next (means self.old) line.now }
+        ensures verdict { result ≡ verdict_of (rules.refused (means self.new)) }
+        ensures frame { frame self.old self.new };
+
+    // The laws that the rules keep, and that the constant is as they have it.
+    ghost breaks: { BREAK ≡ rules.on_break };
+
     ghost stays: { RefusalStays rules };
 
     ghost aside: { ForeignIsAside rules begun foreign };
 
     ghost begins: { BeginsWithALine rules begun };
 
-    // What a kind that writes to lent memory keeps: which memory it is.
-    ghost frame: { Self → Self → Type 0 };
-
-    // It is the same before any line, and after one more.
+    // The memory is the same before any line, and after one more.
     ghost framed: { (a : Self) → frame a a };
 
     ghost still: { (a b c : Self) → frame a b → frame b c → frame a c };
-
-    // The constant, as the rules have it.
-    fn at_break() -> Break
-        ensures { result ≡ rules.on_break };
-
-    fn take(&mut self, line: &str) -> Result<(), Fault>
-        ensures next { means self.new ≡ rules.next (means self.old) line.now }
-        ensures verdict { result ≡ verdict_of (rules.refused (means self.new)) }
-        ensures frame { frame self.old self.new };
 }
 
 // A kind that is closed by value: an open one is gone then.

@@ -15,6 +15,6 @@ unfolding reading
 returns g c = record {
   reading = closed_ok g.K.Kind.rules c.lines.ensures.course c.in_ok-taken.was c.finish.ensures.closed c.at_line.ensures;
   means = c.finish.ensures.keeps ∙ meaning_of c.lines.ensures.course;
-  frame = g.K.Kind.still c.args.kind.now c.lines.new.kind c.finish.new.self c.lines.ensures.frame c.finish.ensures.frame;
+  frame = g.met.K.Kind.still c.args.kind.now c.lines.new.kind c.finish.new.self c.lines.ensures.frame c.finish.ensures.frame;
   keeps = c.lines.ensures.keeps;
 }

@@ -8,7 +8,7 @@ use Rattle.sources.proofs.drive.lines.Goals as goal
 
 pub loop-n-init : goal.loop-n-init
 unfolding course
-loop-n-init g c = (refl, omega arith, omega arith, refl, g.K.Kind.framed c.args.kind.now, refl)
+loop-n-init g c = (refl, omega arith, omega arith, refl, g.met.K.Kind.framed c.args.kind.now, refl)
 
 pub returns-in-Ended : goal.returns-in-Ended
 returns-in-Ended g c =
@@ -62,7 +62,7 @@ returns-in_err-at_line-in-Ok g c =
     let i = c.loop-n.invariant.0 in
     let r = c.loop-n.invariant.3 in
     let p1 = p.1 in let p2 = p.2 in
-    record { course = cc; frame = g.K.Kind.still c.args.kind.now c.loop-n.kind c.take.new.self c.loop-n.invariant.4 c.take.ensures.frame; keeps = c.in-Line.ensures.keeps ∙ c.loop-n.invariant.5 }
+    record { course = cc; frame = g.met.K.Kind.still c.args.kind.now c.loop-n.kind c.take.new.self c.loop-n.invariant.4 c.take.ensures.frame; keeps = c.in-Line.ensures.keeps ∙ c.loop-n.invariant.5 }
 
 pub loop-n-smaller : goal.loop-n-smaller
 loop-n-smaller g c = let l = c.in-Line.ensures.came.0 in rw l.left (simp length-drop (omega (arith, l.some, l.is, through-≤ (g.S.Source.rest c.loop-n.source))))
@@ -77,4 +77,4 @@ loop-n-preserved g c =
     let r = c.loop-n.invariant.3 in
     let k = c.in-Line.ensures.keeps in
     let l = c.in-Line.ensures.came.0 in
-    (cc, omega (arith, l.some), omega (arith, c.if-past_cap-2.ensures), omega arith, g.K.Kind.still c.args.kind.now c.loop-n.kind c.take.new.self c.loop-n.invariant.4 c.take.ensures.frame, k ∙ c.loop-n.invariant.5)
+    (cc, omega (arith, l.some), omega (arith, c.if-past_cap-2.ensures), omega arith, g.met.K.Kind.still c.args.kind.now c.loop-n.kind c.take.new.self c.loop-n.invariant.4 c.take.ensures.frame, k ∙ c.loop-n.invariant.5)
