@@ -5,7 +5,7 @@ use Rattle.std.proofs.lemmas.List.{drop-append-le, take-append-le, get_or-take, 
 use Rattle.std.proofs.lemmas.Bool.{cases_Bool, cases_lt}
 use Rattle.sources.specs.Bytes.{through, moved}
 use Rattle.sources.specs.Given.{Given, answer}
-use Rattle.sources.specs.Joined.{joined, either}
+use Rattle.sources.specs.Texts.{text, joined}
 use Rattle.sources.specs.declared.source.Piece.{Piece}
 use Rattle.sources.specs.declared.source.Piece.TheVariants.{Bytes, Ended}
 use Rattle.sources.proofs.Through.{through-≤, through-some}
@@ -48,9 +48,9 @@ through-++ (x ∷ xs) b =
     ]
 
 -- the first gave a whole piece
-pub join_first : (buf a : List ℕ) (ta : Bool) (k : ℕ) (buf' a' : List ℕ) (ta' : Bool) (b : List ℕ) (tb : Bool) → 0 < length buf → Given buf a ta (Bytes k) buf' a' ta' →
-    (k ≡ length buf) ⊎ (get_or buf' (k - 1) 0 ≡ 10) → Given buf (joined ta a b) (either ta tb) (Bytes k) buf' (joined ta' a' b) (either ta' tb)
-join_first buf a true k buf' a' ta' b tb h g w = subst (λ (t : Bool). Given buf a true (Bytes k) buf' (joined t a' b) (either t tb)) (sym g.keeps) (subst (λ (t : Bool). Given buf a true (Bytes k) buf' a' t) g.keeps g)
+pub join_first : (buf a : List ℕ) (ta : Bool) (k : ℕ) (buf' a' : List ℕ) (ta' : Bool) (b : List ℕ) (tb : Bool) → 0 < length buf → Given buf (text a ta) (Bytes k) buf' (text a' ta') →
+    (k ≡ length buf) ⊎ (get_or buf' (k - 1) 0 ≡ 10) → Given buf (joined (text a ta) (text b tb)) (Bytes k) buf' (joined (text a' ta') (text b tb))
+join_first buf a true k buf' a' ta' b tb h g w = subst (λ (t : Bool). Given buf (text a true) (Bytes k) buf' (joined (text a' t) (text b tb))) (sym g.keeps) (subst (λ (t : Bool). Given buf (text a true) (Bytes k) buf' (text a' t)) g.keeps g)
 join_first buf a false k buf' a' ta' b tb h g w =
     let s = seen buf a false k buf' a' ta' h g in
     let o = one s in
@@ -68,14 +68,14 @@ join_first buf a false k buf' a' ta' b tb h g w =
     ] in
     let f : buf' ≡ take k (a ++ b) ++ drop k buf = g.fills ∙ ap (λ (n : ℕ). take n a ++ drop n buf) (sym i) ∙ ap (λ (l : List ℕ). l ++ drop k buf) (sym (take-append-le k a b (omega arith))) in
     let d : a' ++ b ≡ drop k (a ++ b) = ap (λ (l : List ℕ). l ++ b) (left_is buf a false k buf' a' ta' h g) ∙ sym (drop-append-le k a b (omega arith)) in
-    subst (λ (t : Bool). Given buf (a ++ b) tb (Bytes k) buf' (joined t a' b) (either t tb)) (sym g.keeps)
+    subst (λ (t : Bool). Given buf (text (a ++ b) tb) (Bytes k) buf' (joined (text a' t) (text b tb))) (sym g.keeps)
     (given_bytes buf (a ++ b) tb k buf' (a' ++ b) (simp length-append (omega (arith, s.some))) q f d)
 
 pub put-tail : (k : ℕ) (X ys : List ℕ) → k ≤ length X → put_mid k (length X - k) X ys ≡ take k X ++ ys
 put-tail k X ys h =
     ap (λ (p : List ℕ). take k X ++ (ys ++ p)) (drop_all (length X - k) (drop k X) (simp length-drop (omega arith))) ∙ ap (λ (p : List ℕ). take k X ++ p) (append-nil ys)
 
-idle : (buf xs : List ℕ) (t : Bool) (r : Piece) (buf' xs' : List ℕ) (t' : Bool) → Given buf xs t r buf' xs' t' → xs ≡ [] → (buf' ≡ buf) × (xs' ≡ [])
+idle : (buf xs : List ℕ) (t : Bool) (r : Piece) (buf' xs' : List ℕ) (t' : Bool) → Given buf (text xs t) r buf' (text xs' t') → xs ≡ [] → (buf' ≡ buf) × (xs' ≡ [])
 idle buf [] t r buf' xs' t' g e =
     let m : moved (length buf) [] ≡ 0 = omega arith in
     (g.fills ∙ ap (λ (n : ℕ). take n [] ++ drop n buf) m, g.moves ∙ ap (λ (n : ℕ). drop n []) m)
@@ -98,8 +98,8 @@ pub record Spent (buf a : List ℕ) (k : ℕ) (X Y a2 : List ℕ) : Type 0 where
   pub none : a2 ≡ []
 
 pub spent : (buf a : List ℕ) (ta : Bool) (k : ℕ) (X a1 : List ℕ) (ta1 : Bool) (r : Piece) (buf2 a2 : List ℕ) (ta2 : Bool) → length X ≡ length buf →
-    0 < length buf → Given buf a ta (Bytes k) X a1 ta1 → (get_or X (k - 1) 0 ≡ 10 → ⊥) → (k ≡ length buf → ⊥) →
-    Given (take (length X - k) (drop k X)) a1 ta1 r buf2 a2 ta2 → Spent buf a k X (put_mid k (length X - k) X buf2) a2
+    0 < length buf → Given buf (text a ta) (Bytes k) X (text a1 ta1) → (get_or X (k - 1) 0 ≡ 10 → ⊥) → (k ≡ length buf → ⊥) →
+    Given (take (length X - k) (drop k X)) (text a1 ta1) r buf2 (text a2 ta2) → Spent buf a k X (put_mid k (length X - k) X buf2) a2
 spent buf a ta k X a1 ta1 r buf2 a2 ta2 lX h g n w g2 =
     let r2 : List ℕ = take (length X - k) (drop k X) in
     let Y : List ℕ = put_mid k (length X - k) X buf2 in
@@ -132,8 +132,8 @@ past a b op = elim (through-++ a b) [ inl j ↦ absurd (op j.1) | inr j ↦ j.0 
 
 -- then the second gave m bytes
 pub join_more : (buf a : List ℕ) (ta ta2 : Bool) (k : ℕ) (X Y a2 : List ℕ) (b : List ℕ) (tb : Bool) (m : ℕ) (buf3 b' : List ℕ) (tb' : Bool) →
-    Spent buf a k X Y a2 → ta ≡ false → ta2 ≡ false → Given (take (length Y - k) (drop k Y)) b tb (Bytes m) buf3 b' tb' →
-    Given buf (joined ta a b) (either ta tb) (Bytes (k + m)) (put_mid k (length Y - k) Y buf3) (joined ta2 a2 b') (either ta2 tb')
+    Spent buf a k X Y a2 → ta ≡ false → ta2 ≡ false → Given (take (length Y - k) (drop k Y)) (text b tb) (Bytes m) buf3 (text b' tb') →
+    Given buf (joined (text a ta) (text b tb)) (Bytes (k + m)) (put_mid k (length Y - k) Y buf3) (joined (text a2 ta2) (text b' tb'))
 join_more buf a ta ta2 k X Y a2 b tb m buf3 b' tb' s t t2 g3 =
     let o = s.some in
     let r3 : List ℕ = take (length Y - k) (drop k Y) in
@@ -158,8 +158,8 @@ no_bytes room (x ∷ b) t r e n = absurd (n _ e)
 
 -- or it had none
 pub join-none : (buf a : List ℕ) (ta ta2 : Bool) (k : ℕ) (X Y a2 : List ℕ) (b : List ℕ) (tb : Bool) (r : Piece) (buf3 b' : List ℕ) (tb' : Bool) →
-    Spent buf a k X Y a2 → ta ≡ false → ta2 ≡ false → Given (take (length Y - k) (drop k Y)) b tb r buf3 b' tb' → ((m : ℕ) → r ≡ Bytes m → ⊥) →
-    Given buf (joined ta a b) (either ta tb) (Bytes k) (put_mid k (length Y - k) Y buf3) (joined ta2 a2 b') (either ta2 tb')
+    Spent buf a k X Y a2 → ta ≡ false → ta2 ≡ false → Given (take (length Y - k) (drop k Y)) (text b tb) r buf3 (text b' tb') → ((m : ℕ) → r ≡ Bytes m → ⊥) →
+    Given buf (joined (text a ta) (text b tb)) (Bytes k) (put_mid k (length Y - k) Y buf3) (joined (text a2 ta2) (text b' tb'))
 join-none buf a ta ta2 k X Y a2 b tb r buf3 b' tb' s t t2 g3 n =
     let o = s.some in
     let r3 : List ℕ = take (length Y - k) (drop k Y) in
@@ -183,9 +183,9 @@ not_ended false room (x ∷ xs) r e h q n = let z : ◌≡◌ {A = ℕ} (length 
 
 -- or the first was broken
 pub join-broken : (buf a : List ℕ) (ta : Bool) (k : ℕ) (X a1 : List ℕ) (ta1 : Bool) (r : Piece) (buf2 a2 : List ℕ) (ta2 : Bool) (b : List ℕ) (tb : Bool) → length X ≡ length buf →
-    0 < length buf → Given buf a ta (Bytes k) X a1 ta1 → (get_or X (k - 1) 0 ≡ 10 → ⊥) → (k ≡ length buf → ⊥) →
-    Given (take (length X - k) (drop k X)) a1 ta1 r buf2 a2 ta2 → (r ≡ Ended → ⊥) →
-    Given buf (joined ta a b) (either ta tb) (Bytes k) (put_mid k (length X - k) X buf2) (joined ta2 a2 b) (either ta2 tb)
+    0 < length buf → Given buf (text a ta) (Bytes k) X (text a1 ta1) → (get_or X (k - 1) 0 ≡ 10 → ⊥) → (k ≡ length buf → ⊥) →
+    Given (take (length X - k) (drop k X)) (text a1 ta1) r buf2 (text a2 ta2) → (r ≡ Ended → ⊥) →
+    Given buf (joined (text a ta) (text b tb)) (Bytes k) (put_mid k (length X - k) X buf2) (joined (text a2 ta2) (text b tb))
 join-broken buf a ta k X a1 ta1 r buf2 a2 ta2 b tb lX h g n w g2 u =
     let s = spent buf a ta k X a1 ta1 r buf2 a2 ta2 lX h g n w g2 in
     let z = none_after h g n w in
@@ -194,5 +194,5 @@ join-broken buf a ta k X a1 ta1 r buf2 a2 ta2 b tb lX h g n w g2 u =
     let t : ta ≡ true = sym g.keeps ∙ t1 in
     let t2 : ta2 ≡ true = g2.keeps ∙ t1 in
     let v : a2 ≡ a1 = s.none ∙ sym z.0 in
-    let g' : Given buf a true (Bytes k) X a1 true = subst (λ (x : Bool). Given buf a x (Bytes k) X a1 true) t (subst (λ (x : Bool). Given buf a ta (Bytes k) X a1 x) t1 g) in
+    let g' : Given buf (text a true) (Bytes k) X (text a1 true) = subst (λ (x : Bool). Given buf (text a x) (Bytes k) X (text a1 true)) t (subst (λ (x : Bool). Given buf (text a ta) (Bytes k) X (text a1 x)) t1 g) in
     rw (t, t2, s.same, v) g'

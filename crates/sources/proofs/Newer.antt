@@ -5,7 +5,7 @@ use Rattle.std.proofs.lemmas.Bool.{cases_Bool}
 use Rattle.sources.specs.declared.fault.Fault.{Fault}
 use Rattle.sources.specs.declared.fault.Refusal.{Refusal}
 use Rattle.sources.specs.Utf8.{is_utf8}
-use Rattle.sources.specs.Lines.{text_of, ended, full, long, lost, walk, judged, Outcome, broke, ending, on_fault, reading, course, closing}
+use Rattle.sources.specs.Lines.{text_of, ended, full, long, lost, walk, judged, Outcome, broke, ending, on_fault, reading, course, closing, leaves}
 use Rattle.sources.specs.Faults.{at_line}
 use Rattle.sources.specs.Rules.{Rules, ForeignIsAside, BeginsWithALine}
 use Rattle.sources.specs.declared.kind.Break.{Break}
@@ -105,7 +105,7 @@ same-closing {M} {C} R (Err f) (Err g) m m' a e = a
 pub newer : {M C : Type 0} (R : Rules M C) (begun : M → Bool) (foreign : List ℕ → Bool) →
     ForeignIsAside R begun foreign → BeginsWithALine R begun →
     NewerReadsSame R begun foreign
-unfolding reading course Like
-newer {M} {C} R begun foreign aside starting broken m text text' n e h =
-    let k = same-walk R begun foreign 268435456 broken aside starting 0 0 0 0 m (begun m) refl n e (omega arith) (omega (arith, ap length (text_lines text'))) in
+unfolding reading course leaves Like
+newer {M} {C} R begun foreign aside starting m t bytes' n e h =
+    let k = same-walk R begun foreign 268435456 t.broken aside starting 0 0 0 0 m (begun m) refl n e (omega arith) (omega (arith, ap length (text_lines bytes'))) in
     same-closing R _ _ _ _ k.0 k.1

@@ -5,8 +5,9 @@ use Rattle.std.proofs.lemmas.List.{drop_all, get_or-take, length-append, length-
 use Rattle.std.proofs.lemmas.Slice.{take-put_mid_below}
 use Rattle.std.proofs.lemmas.Bool.{cases_Bool, cases_lt}
 use Rattle.sources.specs.Bytes.{through, moved}
+use Rattle.sources.specs.Texts.{text}
 use Rattle.sources.specs.Given.{Given, answer, ending}
-use Rattle.sources.specs.Came.{Lined, Came}
+use Rattle.sources.specs.Came.{Lined, Comes}
 use Rattle.sources.specs.declared.source.Piece.{Piece}
 use Rattle.sources.specs.declared.source.Piece.TheVariants as piece
 use Rattle.sources.specs.declared.drive.Next.TheVariants.{Line, Lost, Long}
@@ -32,25 +33,25 @@ open_or (x ∷ xs) =
 pub through-open : (xs : List ℕ) → (get_or xs (through xs - 1) 0 ≡ 10 → ⊥) → through xs ≡ length xs
 through-open xs h = elim (open_or xs) [ inl e ↦ e | inr e ↦ absurd (h e) ]
 
-lined : {buf xs : List ℕ} {broken : Bool} {n : ℕ} {buf' xs' : List ℕ} {broken' : Bool} → 0 < length buf → Given buf xs broken (piece.Bytes n) buf' xs' broken' →
+lined : {buf xs : List ℕ} {broken : Bool} {n : ℕ} {buf' xs' : List ℕ} {broken' : Bool} → 0 < length buf → Given buf (text xs broken) (piece.Bytes n) buf' (text xs' broken') →
     (n ≡ length buf → get_or buf' (n - 1) 0 ≡ 10) → length buf' ≡ length buf → Lined (length buf) xs n buf' xs'
 lined {buf} {xs} {broken} {n} {buf'} {xs'} {broken'} h g e w =
     let s = seen buf xs broken n buf' xs' broken' h g in
     record { some = one s; is = whole s e; short = not_long s e; within = omega (arith, s.is); fits = fits s; front = s.front; left = left_is buf xs broken n buf' xs' broken' h g }
 
-pub came_line : {buf xs : List ℕ} {broken : Bool} {n : ℕ} {buf' xs' : List ℕ} {broken' : Bool} → 0 < length buf → Given buf xs broken (piece.Bytes n) buf' xs' broken' →
-    get_or buf' (n - 1) 0 ≡ 10 → length buf' ≡ length buf → Came (length buf) xs broken (Line n) buf' xs'
+pub came_line : {buf xs : List ℕ} {broken : Bool} {n : ℕ} {buf' xs' : List ℕ} {broken' : Bool} → 0 < length buf → Given buf (text xs broken) (piece.Bytes n) buf' (text xs' broken') →
+    get_or buf' (n - 1) 0 ≡ 10 → length buf' ≡ length buf → Comes (length buf) xs broken (Line n) buf' xs'
 came_line {buf} {xs} {broken} {n} {buf'} {xs'} {broken'} h g b w =
     (lined h g (λ _. b) w, stands broken (seen buf xs broken n buf' xs' broken' h g) (λ _. b))
 
-pub came_long : {buf xs : List ℕ} {broken : Bool} {n : ℕ} {buf' xs' : List ℕ} {broken' : Bool} → 0 < length buf → Given buf xs broken (piece.Bytes n) buf' xs' broken' →
-    (get_or buf' (n - 1) 0 ≡ 10 → ⊥) → n ≡ length buf → Came (length buf) xs broken Long buf' xs'
+pub came_long : {buf xs : List ℕ} {broken : Bool} {n : ℕ} {buf' xs' : List ℕ} {broken' : Bool} → 0 < length buf → Given buf (text xs broken) (piece.Bytes n) buf' (text xs' broken') →
+    (get_or buf' (n - 1) 0 ≡ 10 → ⊥) → n ≡ length buf → Comes (length buf) xs broken Long buf' xs'
 came_long {buf} {xs} {broken} {n} {buf'} {xs'} {broken'} h g b w =
     let s = seen buf xs broken n buf' xs' broken' h g in
     (s.some, is_long s w b, left_is buf xs broken n buf' xs' broken' h g ∙ ap (λ (k : ℕ). drop k xs) w)
 
 -- the second call, after a line without a byte 10
-pub none_after : {buf xs : List ℕ} {broken : Bool} {n : ℕ} {buf' xs' : List ℕ} {broken' : Bool} → 0 < length buf → Given buf xs broken (piece.Bytes n) buf' xs' broken' →
+pub none_after : {buf xs : List ℕ} {broken : Bool} {n : ℕ} {buf' xs' : List ℕ} {broken' : Bool} → 0 < length buf → Given buf (text xs broken) (piece.Bytes n) buf' (text xs' broken') →
     (get_or buf' (n - 1) 0 ≡ 10 → ⊥) → (n ≡ length buf → ⊥) → (xs' ≡ []) × (drop n xs ≡ [])
 none_after {buf} {xs} {broken} {n} {buf'} {xs'} {broken'} h g b w =
     let s = seen buf xs broken n buf' xs' broken' h g in
@@ -68,17 +69,17 @@ mended {room} {xs} {n} {buf'} {xs'} k buf'' xs'' l a b =
     let p : length (take n buf') ≡ n = length-take-le n buf' w in
     record { some = l.some; is = l.is; short = l.short; within = simp length-append (omega (arith, p)); fits = l.fits; front = take-put_mid_below n k buf' buf'' n (omega arith) w ∙ l.front; left = b ∙ l.left }
 
-pub came_lost : {buf xs : List ℕ} {broken : Bool} {n : ℕ} {buf' xs' : List ℕ} {broken' : Bool} {buf'' xs'' : List ℕ} {broken'' : Bool} {r2 : List ℕ} (k : ℕ) → 0 < length buf → Given buf xs broken (piece.Bytes n) buf' xs' broken' →
+pub came_lost : {buf xs : List ℕ} {broken : Bool} {n : ℕ} {buf' xs' : List ℕ} {broken' : Bool} {buf'' xs'' : List ℕ} {broken'' : Bool} {r2 : List ℕ} (k : ℕ) → 0 < length buf → Given buf (text xs broken) (piece.Bytes n) buf' (text xs' broken') →
     (get_or buf' (n - 1) 0 ≡ 10 → ⊥) → (n ≡ length buf → ⊥) → length buf' ≡ length buf → length buf'' ≡ length buf' - n →
-    Given r2 xs' broken' piece.Broken buf'' xs'' broken'' → Came (length buf) xs broken (Lost n) (put_mid n k buf' buf'') xs''
+    Given r2 (text xs' broken') piece.Broken buf'' (text xs'' broken'') → Comes (length buf) xs broken (Lost n) (put_mid n k buf' buf'') xs''
 came_lost {buf} {xs} {broken} {n} {buf'} {xs'} {broken'} {buf''} {xs''} {broken''} {r2} k h g b w l a q =
     let t = broken_left r2 xs' broken' buf'' xs'' broken'' q in
     let s = seen buf xs broken n buf' xs' broken' h g in
     (mended k buf'' xs'' (lined h g (λ e. absurd (w e)) l) a (t.2 ∙ sym t.0), sym g.keeps ∙ t.1, ended_is s ∙ ne_eqb (get_or buf' (n - 1) 0) 10 b)
 
-pub came_rest : {buf xs : List ℕ} {broken : Bool} {n : ℕ} {buf' xs' : List ℕ} {broken' : Bool} {r : Piece} {buf'' xs'' : List ℕ} {broken'' : Bool} {r2 : List ℕ} (k : ℕ) → 0 < length buf → Given buf xs broken (piece.Bytes n) buf' xs' broken' →
+pub came_rest : {buf xs : List ℕ} {broken : Bool} {n : ℕ} {buf' xs' : List ℕ} {broken' : Bool} {r : Piece} {buf'' xs'' : List ℕ} {broken'' : Bool} {r2 : List ℕ} (k : ℕ) → 0 < length buf → Given buf (text xs broken) (piece.Bytes n) buf' (text xs' broken') →
     (get_or buf' (n - 1) 0 ≡ 10 → ⊥) → (n ≡ length buf → ⊥) → length buf' ≡ length buf → length buf'' ≡ length buf' - n → 0 < length r2 →
-    Given r2 xs' broken' r buf'' xs'' broken'' → (r ≡ piece.Broken → ⊥) → Came (length buf) xs broken (Line n) (put_mid n k buf' buf'') xs''
+    Given r2 (text xs' broken') r buf'' (text xs'' broken'') → (r ≡ piece.Broken → ⊥) → Comes (length buf) xs broken (Line n) (put_mid n k buf' buf'') xs''
 came_rest {buf} {xs} {broken} {n} {buf'} {xs'} {broken'} {r} {buf''} {xs''} {broken''} {r2} k h g b w l a z q u =
     let s = seen buf xs broken n buf' xs' broken' h g in
     let o = none_after h g b w in

@@ -5,6 +5,7 @@ use Rattle.sources.specs.declared.source.Piece.{Piece}
 use Rattle.std.proofs.lemmas.List.{drop_all, take_rest, length-take-le, take_all, take-take, take-append-le, drop-append-le, drop-take, drop-drop, get_or-take, take_at, drop_at}
 use Rattle.std.proofs.lemmas.Bool.{cases_eq}
 use Rattle.sources.specs.Bytes.{through, moved}
+use Rattle.sources.specs.Texts.{text as told}
 use Rattle.sources.specs.Given.{Given, ending}
 use Rattle.sources.specs.declared.source.Piece.TheVariants.{Bytes}
 use Rattle.sources.proofs.Through.{through-≤, through-some}
@@ -98,7 +99,7 @@ more-moved {buf} {text} {n} {buf'} {text'} {k} {r2} {buf2} {text''} f e p =
     }
 
 -- the piece ends here
-pub moved-end : {buf text : List ℕ} {n : ℕ} {buf' text' : List ℕ} {broken broken' : Bool} → Moved buf text n buf' text' → broken' ≡ broken → (n ≡ length buf) ⊎ (get_or buf' (n - 1) 0 ≡ 10) → Given buf text broken (Bytes n) buf' text' broken'
+pub moved-end : {buf text : List ℕ} {n : ℕ} {buf' text' : List ℕ} {broken broken' : Bool} → Moved buf text n buf' text' → broken' ≡ broken → (n ≡ length buf) ⊎ (get_or buf' (n - 1) 0 ≡ 10) → Given buf (told text broken) (Bytes n) buf' (told text' broken')
 moved-end {buf} {text} {n} {buf'} {text'} {broken} {broken'} m k e =
     let t = through-≤ text in
     rw k (given_bytes buf text broken n buf' text' (omega (arith, m.some, m.line)) (is e) m.fills m.moves)
@@ -140,12 +141,12 @@ moved_on {buf} {text} {n} {buf'} {text'} m e b =
         ]
 
 -- no byte is left
-pub filled-end : {buf text : List ℕ} {n : ℕ} {buf' text' : List ℕ} {broken broken' : Bool} → Filled buf text n buf' text' → broken' ≡ broken → text' ≡ [] → (n ≡ 0 → ⊥) → Given buf text broken (Bytes n) buf' text' broken'
+pub filled-end : {buf text : List ℕ} {n : ℕ} {buf' text' : List ℕ} {broken broken' : Bool} → Filled buf text n buf' text' → broken' ≡ broken → text' ≡ [] → (n ≡ 0 → ⊥) → Given buf (told text broken) (Bytes n) buf' (told text' broken')
 filled-end {buf} {text} {n} {buf'} {text'} {broken} {broken'} f q e z =
     let s = f.short in let h = f.line in let k = f.fits in let t : through text' ≡ 0 = ap through e in
     rw q (given_bytes buf text broken n buf' text' (omega arith) (omega arith) f.fills f.moves)
 
-pub filled-ending : {buf text : List ℕ} {n : ℕ} {buf' text' : List ℕ} {broken broken' : Bool} {r : Piece} → Filled buf text n buf' text' → broken' ≡ broken → text' ≡ [] → n ≡ 0 → r ≡ ending broken' → Given buf text broken r buf' text' broken'
+pub filled-ending : {buf text : List ℕ} {n : ℕ} {buf' text' : List ℕ} {broken broken' : Bool} {r : Piece} → Filled buf text n buf' text' → broken' ≡ broken → text' ≡ [] → n ≡ 0 → r ≡ ending broken' → Given buf (told text broken) r buf' (told text' broken')
 filled-ending {buf} {text} {n} {buf'} {text'} {broken} {broken'} {r} f q e z a =
     let b : buf' ≡ buf = f.fills ∙ ap (λ (j : ℕ). take j text ++ drop j buf) z in
     let t : text' ≡ text = f.moves ∙ ap (λ (j : ℕ). drop j text) z in

@@ -6,6 +6,7 @@ use Rattle.sources.specs.declared.reason.Reason.TheVariants as reason
 use Rattle.sources.specs.Utf8.{is_utf8}
 use Rattle.sources.proofs.Utf8.{text_formed, formed-text}
 use Rattle.sources.specs.Bytes.{through, moved}
+use Rattle.sources.specs.Texts.{text}
 use Rattle.sources.specs.Given.{Given, ending}
 use Rattle.sources.specs.Lines.{lost, lines_of, ended, full, long, judged, walk, Outcome, broke, on_fault}
 use Rattle.sources.specs.Faults.{refused}
@@ -124,7 +125,7 @@ no_ending true n q = let z : ◌≡◌ {A = ℕ} 0 1 = cc in omega arith
 no_ending false n q = let z : ◌≡◌ {A = ℕ} 0 1 = cc in omega arith
 
 -- what a call of `piece` says of the text
-pub seen : (buf xs : List ℕ) (broken : Bool) (n : ℕ) (buf' xs' : List ℕ) (broken' : Bool) → 0 < length buf → Given buf xs broken (Bytes n) buf' xs' broken' → Seen (length buf) xs n buf'
+pub seen : (buf xs : List ℕ) (broken : Bool) (n : ℕ) (buf' xs' : List ℕ) (broken' : Bool) → 0 < length buf → Given buf (text xs broken) (Bytes n) buf' (text xs' broken') → Seen (length buf) xs n buf'
 seen buf [] broken n buf' xs' broken' h g =
     let q : Bytes n ≡ ending broken = g.answers ∙ ap (λ (t : Bool). cond t (Bytes 0) (ending broken)) (ne_eqb (length buf) 0 (omega arith)) in
     absurd (no_ending broken n q)
@@ -144,11 +145,11 @@ is_broken broken true q = let z : ◌≡◌ {A = ℕ} 0 1 = cc in absurd (omega 
 is_broken true false q = refl
 is_broken false false q = let z : ◌≡◌ {A = ℕ} 0 1 = cc in absurd (omega arith)
 
-pub none_left : (buf xs : List ℕ) (broken : Bool) (buf' xs' : List ℕ) (broken' : Bool) → Given buf xs broken Ended buf' xs' broken' → (xs ≡ []) × (broken ≡ false) × (xs' ≡ [])
+pub none_left : (buf xs : List ℕ) (broken : Bool) (buf' xs' : List ℕ) (broken' : Bool) → Given buf (text xs broken) Ended buf' (text xs' broken') → (xs ≡ []) × (broken ≡ false) × (xs' ≡ [])
 none_left buf [] broken buf' xs' broken' g = (refl, is_ended broken (eqb (length buf) 0) g.answers, g.moves ∙ drop_all (moved (length buf) []) [] (omega arith))
 none_left buf (x ∷ xs) broken buf' xs' broken' g = let a = g.answers in let z : ◌≡◌ {A = ℕ} 0 1 = cc in absurd (omega arith)
 
-pub broken_left : (buf xs : List ℕ) (broken : Bool) (buf' xs' : List ℕ) (broken' : Bool) → Given buf xs broken Broken buf' xs' broken' → (xs ≡ []) × (broken ≡ true) × (xs' ≡ [])
+pub broken_left : (buf xs : List ℕ) (broken : Bool) (buf' xs' : List ℕ) (broken' : Bool) → Given buf (text xs broken) Broken buf' (text xs' broken') → (xs ≡ []) × (broken ≡ true) × (xs' ≡ [])
 broken_left buf [] broken buf' xs' broken' g = (refl, is_broken broken (eqb (length buf) 0) g.answers, g.moves ∙ drop_all (moved (length buf) []) [] (omega arith))
 broken_left buf (x ∷ xs) broken buf' xs' broken' g = let a = g.answers in let z : ◌≡◌ {A = ℕ} 0 1 = cc in absurd (omega arith)
 
@@ -159,8 +160,8 @@ text_true l u = text_formed l u
 pub text_false : (l : List ℕ) → (IsUtf8 l → ⊥) → is_utf8 l ≡ false
 text_false l u = elim (cases_Bool (is_utf8 l)) [ inl a ↦ absurd (u (formed-text l a)) | inr a ↦ a ]
 
-pub seen-in : (room : ℕ) (buf xs : List ℕ) (broken : Bool) (n : ℕ) (buf' xs' : List ℕ) (broken' : Bool) → length buf ≡ room → 0 < room → Given buf xs broken (Bytes n) buf' xs' broken' → Seen room xs n buf'
+pub seen-in : (room : ℕ) (buf xs : List ℕ) (broken : Bool) (n : ℕ) (buf' xs' : List ℕ) (broken' : Bool) → length buf ≡ room → 0 < room → Given buf (text xs broken) (Bytes n) buf' (text xs' broken') → Seen room xs n buf'
 seen-in room buf xs broken n buf' xs' broken' e h g = subst (λ (r : ℕ). Seen r xs n buf') e (seen buf xs broken n buf' xs' broken' (omega arith) g)
 
-pub left_is : (buf xs : List ℕ) (broken : Bool) (n : ℕ) (buf' xs' : List ℕ) (broken' : Bool) → 0 < length buf → Given buf xs broken (Bytes n) buf' xs' broken' → xs' ≡ drop n xs
+pub left_is : (buf xs : List ℕ) (broken : Bool) (n : ℕ) (buf' xs' : List ℕ) (broken' : Bool) → 0 < length buf → Given buf (text xs broken) (Bytes n) buf' (text xs' broken') → xs' ≡ drop n xs
 left_is buf xs broken n buf' xs' broken' h g = g.moves ∙ ap (λ (k : ℕ). drop k xs) (sym (seen buf xs broken n buf' xs' broken' h g).is)

@@ -3,6 +3,7 @@ use Rattle.std.specs.Prelude.{◌≡◌, ℕ, ◌≤◌, Bool, true, List, [], �
 use Rattle.sources.specs.declared.fault.Refusal.{Refusal}
 use Rattle.sources.specs.Lines.{lines_of, ended, reading, max_line, max_text}
 use Rattle.sources.specs.Rules.{Rules}
+use Rattle.sources.specs.Texts.{Text, text}
 use Rattle.sources.specs.Utf8.{is_utf8}
 
 -- A line that may be added.
@@ -29,5 +30,5 @@ Same {C} (Err f) (Err g) = (f.reason ≡ g.reason) × (f.field ≡ g.field)
 -- A newer edition of a text, with the same ending and within the cap, reads the same.
 abbrev pub NewerReadsSame : {M C : Type 0} → Rules M C → (M → Bool) → (List ℕ → Bool) → Type 0
 NewerReadsSame {M} {C} R begun foreign =
-    (broken : Bool) (m : M) (text text' : List ℕ) → R.refused m ≡ None → Edition foreign (begun m) (lines_of text) (lines_of text') → length text' ≤ max_text →
-    Same (reading R broken m text).0 (reading R broken m text').0
+    (m : M) (t : Text) (bytes' : List ℕ) → R.refused m ≡ None → Edition foreign (begun m) (lines_of t.bytes) (lines_of bytes') → length bytes' ≤ max_text →
+    Same (reading R m t).0 (reading R m (text bytes' t.broken)).0

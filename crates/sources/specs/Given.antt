@@ -1,6 +1,7 @@
 -- What one call of `piece` does: what it answers, what it moves, and what it leaves.
 use Rattle.std.specs.Prelude.{◌≡◌, ℕ, Bool, true, false, cond, List, [], ◌∷◌, ◌++◌, length, take, drop, ◌==◌}
 use Rattle.sources.specs.Bytes.{moved}
+use Rattle.sources.specs.Texts.{Text}
 use Rattle.sources.specs.declared.source.Piece.{Piece}
 use Rattle.sources.specs.declared.source.Piece.TheVariants.{Bytes, Ended, Broken}
 
@@ -13,9 +14,9 @@ abbrev pub answer : ℕ → List ℕ → Bool → Piece
 answer room [] broken = cond (room == 0) (Bytes 0) (ending broken)
 answer room (b ∷ bs) broken = Bytes (moved room (b ∷ bs))
 
--- One call of `piece`: `buf` and `bytes` are the buffer and the bytes to come before it, `buf'` and `bytes'` after it.
-pub record Given (buf bytes : List ℕ) (broken : Bool) (r : Piece) (buf' bytes' : List ℕ) (broken' : Bool) : Type 0 where
-  pub answers : r ≡ answer (length buf) bytes broken
-  pub moves : bytes' ≡ drop (moved (length buf) bytes) bytes
-  pub fills : buf' ≡ take (moved (length buf) bytes) bytes ++ drop (moved (length buf) bytes) buf
-  pub keeps : broken' ≡ broken
+-- One call of `piece`: `buf` and `t` are the buffer and the text to come before it, `buf'` and `t'` after it.
+pub record Given (buf : List ℕ) (t : Text) (r : Piece) (buf' : List ℕ) (t' : Text) : Type 0 where
+  pub answers : r ≡ answer (length buf) t.bytes t.broken
+  pub moves : t'.bytes ≡ drop (moved (length buf) t.bytes) t.bytes
+  pub fills : buf' ≡ take (moved (length buf) t.bytes) t.bytes ++ drop (moved (length buf) t.bytes) buf
+  pub keeps : t'.broken ≡ t.broken

@@ -1,6 +1,6 @@
 pub mod Bytes
+pub mod Texts
 pub mod Given
-pub mod Joined
 pub mod Records
 pub mod Reasons
 pub mod Faults

@@ -7,6 +7,7 @@ use Rattle.sources.specs.declared.kind.Break.TheVariants.{Refuses, Ends}
 use Rattle.sources.specs.declared.reason.Reason.TheVariants as reason
 use Rattle.sources.specs.Faults.{refused, located, at_line}
 use Rattle.sources.specs.Rules.{Rules}
+use Rattle.sources.specs.Texts.{Text, text}
 use Rattle.sources.specs.Utf8.{is_utf8}
 
 -- The longest piece of a line, and the longest text.
@@ -60,6 +61,10 @@ ending on_break broken taken = cond broken (broke on_break taken) (Ok taken)
 abbrev pub Outcome : Type 0 → Type 0
 Outcome M = Result ℕ Refusal × M × List ℕ
 
+-- The same, with the text that is left, where the text's ending is `broken`.
+unfoldable pub leaves : {M : Type 0} → Bool → Outcome M → Result ℕ Refusal × M × Text
+leaves {M} broken o = (o.0, o.1, text o.2 broken)
+
 -- A line that the kind refused ends the course; after any other it goes on.
 abbrev pub on_fault : {M : Type 0} → Option Fault → ℕ → M → List ℕ → Outcome M → Outcome M
 on_fault {M} None line m left go = go
@@ -80,19 +85,19 @@ walk {M} {C} room most R broken taken size m [] = (ending R.on_break broken take
 walk {M} {C} room most R broken taken size m (l ∷ ls) =
     judged room most R broken taken size m l (text_of ls) (walk room most R broken (taken + 1) (size + length l) (R.next m l) ls)
 
--- The course over a text.
-unfoldable pub course : {M C : Type 0} → Rules M C → Bool → M → List ℕ → Outcome M
-course {M} {C} R broken m text = walk max_line max_text R broken 0 0 m (lines_of text)
+-- The course over a text: what is left of it has the same ending.
+unfoldable pub course : {M C : Type 0} → Rules M C → M → Text → Result ℕ Refusal × M × Text
+course {M} {C} R m t = leaves t.broken (walk max_line max_text R t.broken 0 0 m (lines_of t.bytes))
 
 -- The kind is closed where the course is not refused.
 abbrev pub closing : {M C : Type 0} → Rules M C → Result ℕ Refusal → M → Result C Refusal
 closing {M} {C} R (Ok taken) m = at_line taken (R.closed m)
 closing {M} {C} R (Err f) m = Err f
 
--- What is answered, and the bytes that are left.
-abbrev pub closes : {M C : Type 0} → Rules M C → Outcome M → Result C Refusal × List ℕ
+-- What is answered, and the text that is left.
+abbrev pub closes : {M C : Type 0} → Rules M C → Result ℕ Refusal × M × Text → Result C Refusal × Text
 closes {M} {C} R o = (closing R o.0 o.1, o.2)
 
 -- The reading of a text by a kind that means `m`.
-unfoldable pub reading : {M C : Type 0} → Rules M C → Bool → M → List ℕ → Result C Refusal × List ℕ
-reading {M} {C} R broken m text = closes R (course R broken m text)
+unfoldable pub reading : {M C : Type 0} → Rules M C → M → Text → Result C Refusal × Text
+reading {M} {C} R m t = closes R (course R m t)

@@ -25,7 +25,7 @@ fn past_cap(size: usize, n: usize) -> bool
 // What a break answers.
 fn broke<K: Kind>(taken: u32) -> Result<u32, Refusal>
     requires { taken ≤ 268435456 }
-    ensures { result ≡ broke_of K.Kind.rules.on_break taken }
+    ensures { result ≡ broke_of K.rules.on_break taken }
 {
     match K::BREAK {
         Break::Ends => Ok(taken),
@@ -49,8 +49,7 @@ enum Next {
 // Reads the next line to the front of `buf`.
 fn next_line<S: Source>(source: &mut S, buf: &mut [u8]) -> Next
     requires { 0 < length buf.old }
-    ensures came { Came (length buf.old) (S.Source.rest source.old) (S.Source.broken source.old) result buf.new (S.Source.rest source.new) }
-    ensures keeps { S.Source.broken source.new ≡ S.Source.broken source.old }
+    ensures { Came (length buf.old) (S.text source.old) result buf.new (S.text source.new) }
 {
     match source.piece(buf) {
         Piece::Ended => Next::Ended,
@@ -72,9 +71,8 @@ fn next_line<S: Source>(source: &mut S, buf: &mut [u8]) -> Next
 
 // Hands the lines of a text to a kind, and answers how many; the kind is to be closed then.
 fn lines<S: Source, K: Kind>(source: &mut S, kind: &mut K) -> Result<u32, Refusal>
-    ensures course { (result, K.Kind.means kind.new, S.Source.rest source.new) ≡ course K.Kind.rules (S.Source.broken source.old) (K.Kind.means kind.old) (S.Source.rest source.old) }
-    ensures frame { K.Kind.frame kind.old kind.new }
-    ensures keeps { S.Source.broken source.new ≡ S.Source.broken source.old }
+    ensures course { (result, K.means kind.new, S.text source.new) ≡ course K.rules (K.means kind.old) (S.text source.old) }
+    ensures frame { K.frame kind.old kind.new }
 {
     let mut buf = [0u8; MAX_LINE];
     let mut taken: u32 = 0;
@@ -107,8 +105,7 @@ fn lines<S: Source, K: Kind>(source: &mut S, kind: &mut K) -> Result<u32, Refusa
 
 // Reads a text by a kind, which is closed and gone then.
 pub fn read<S: Source, K: Close + Drop>(source: &mut S, kind: K) -> Result<K::Closed, Refusal>
-    ensures reading { (result, S.Source.rest source.new) ≡ reading K.Kind.rules (S.Source.broken source.old) (K.Kind.means kind) (S.Source.rest source.old) }
-    ensures keeps { S.Source.broken source.new ≡ S.Source.broken source.old }
+    ensures { (result, S.text source.new) ≡ reading K.Kind.rules (K.Kind.means kind) (S.text source.old) }
 {
     let mut kind = kind;
     let taken = lines(source, &mut kind)?;
@@ -117,10 +114,9 @@ pub fn read<S: Source, K: Close + Drop>(source: &mut S, kind: K) -> Result<K::Cl
 
 // Reads a text by a kind that writes to lent memory.
 pub fn fill<S: Source, K: Finish>(source: &mut S, kind: &mut K) -> Result<K::Closed, Refusal>
-    ensures reading { (result, S.Source.rest source.new) ≡ reading K.Kind.rules (S.Source.broken source.old) (K.Kind.means kind.old) (S.Source.rest source.old) }
-    ensures means { K.Kind.means kind.new ≡ (course K.Kind.rules (S.Source.broken source.old) (K.Kind.means kind.old) (S.Source.rest source.old)).1 }
+    ensures reading { (result, S.text source.new) ≡ reading K.Kind.rules (K.Kind.means kind.old) (S.text source.old) }
+    ensures means { K.Kind.means kind.new ≡ (course K.Kind.rules (K.Kind.means kind.old) (S.text source.old)).1 }
     ensures frame { K.Kind.frame kind.old kind.new }
-    ensures keeps { S.Source.broken source.new ≡ S.Source.broken source.old }
 {
     let taken = lines(source, kind)?;
     at_line(kind.finish(), taken)
@@ -128,7 +124,7 @@ pub fn fill<S: Source, K: Finish>(source: &mut S, kind: &mut K) -> Result<K::Clo
 
 // A newer edition of a text reads the same, line numbers aside, by every kind.
 pub fn newer_reads_same<K: Kind>() -> u8
-    ensures { NewerReadsSame K.Kind.rules K.Kind.begun K.Kind.foreign }
+    ensures { NewerReadsSame K.rules K.begun K.foreign }
 {
     0
 }

@@ -1,5 +1,6 @@
 ghost use Rattle.std.specs.Prelude.{◌≡◌, false, drop};
 ghost use Rattle.sources.specs.Given.{Given};
+ghost use Rattle.sources.specs.Texts.{text};
 
 use crate::source::{Piece, Source, reach};
 
@@ -12,16 +13,14 @@ pub struct Held<'a> {
 
 impl<'a> Held<'a> {
     pub fn new(bytes: &'a [u8]) -> Held<'a>
-        ensures means { drop result.place result.bytes.now ≡ bytes.now }
+        ensures { ⟦<Held<'a> as Source>⟧.text result ≡ text bytes.now false }
     {
         Held { bytes, place: 0 }
     }
 }
 
 impl<'a> Source for Held<'a> {
-    ghost rest = { λ h. drop h.place h.bytes.now };
-
-    ghost broken = { λ _. false };
+    ghost text = { λ h. text (drop h.place h.bytes.now) false };
 
     fn piece(&mut self, buf: &mut [u8]) -> Piece {
         if buf.len() == 0 {

@@ -1,6 +1,6 @@
 ghost use Rattle.std.specs.Prelude.{◌≡◌};
 ghost use Rattle.sources.specs.Given.{Given};
-ghost use Rattle.sources.specs.Joined.{joined, either};
+ghost use Rattle.sources.specs.Texts.{joined};
 
 use crate::source::{Piece, Source};
 
@@ -21,9 +21,7 @@ impl<A: Source, B: Source> Join<A, B> {
 }
 
 impl<A: Source, B: Source> Source for Join<A, B> {
-    ghost rest = { λ j. joined (A.Source.broken j.first) (A.Source.rest j.first) (B.Source.rest j.second) };
-
-    ghost broken = { λ j. either (A.Source.broken j.first) (B.Source.broken j.second) };
+    ghost text = { λ j. joined (A.text j.first) (B.text j.second) };
 
     fn piece(&mut self, buf: &mut [u8]) -> Piece {
         if buf.len() == 0 {

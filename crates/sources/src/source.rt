@@ -1,6 +1,7 @@
-ghost use Rattle.std.specs.Prelude.{◌≡◌, ℕ, Bool, List};
+ghost use Rattle.std.specs.Prelude.{◌≡◌};
 ghost use Rattle.sources.specs.Bytes.{moved};
 ghost use Rattle.sources.specs.Given.{Given};
+ghost use Rattle.sources.specs.Texts.{Text};
 
 // What one call of `piece` answers: bytes moved, or the ending, clean or broken.
 // No Result: an ending is no error, and all three are matched side by side.
@@ -13,13 +14,11 @@ pub enum Piece {
 
 // Bytes that come a piece at a time. It means the bytes still to come, and whether their ending is broken.
 pub trait Source {
-    ghost rest: { Self → List ℕ };
-
-    ghost broken: { Self → Bool };
+    ghost text: { Self → Text };
 
     // Moves bytes to the front of `buf`: as many as it has room for, as are left, and as stand through the next byte 10.
     fn piece(&mut self, buf: &mut [u8]) -> Piece
-        ensures { Given buf.old (rest self.old) (broken self.old) result buf.new (rest self.new) (broken self.new) };
+        ensures { Given buf.old (text self.old) result buf.new (text self.new) };
 }
 
 // How many bytes a piece of at most `room` moves.

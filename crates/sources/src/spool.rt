@@ -2,6 +2,7 @@ ghost use Rattle.std.specs.Prelude.{◌≡◌, ◌+◌, ◌<◌, ℕ, min, Bool,
 ghost use Rattle.sources.specs.declared.reason.Reason.TheVariants as reason;
 ghost use Rattle.sources.specs.Faults.{refused};
 ghost use Rattle.sources.specs.Given.{Given, ending as given_ending};
+ghost use Rattle.sources.specs.Texts.{text};
 ghost use Rattle.sources.specs.Records.{recorded, to_come, text_of_records, records_of, ending_of, Part};
 
 use crate::fault::Refusal;
@@ -77,9 +78,7 @@ impl<'a> Spool<'a> {
 }
 
 impl<'a> Source for Spool<'a> {
-    ghost rest = { λ s. to_come s.records.now s.used };
-
-    ghost broken = { λ s. ending_of s.records.now };
+    ghost text = { λ s. text (to_come s.records.now s.used) (ending_of s.records.now) };
 
     fn piece(&mut self, buf: &mut [u8]) -> Piece {
         if buf.len() == 0 {

@@ -5,13 +5,13 @@ use Rattle.sources.proofs.Next.{came_line, came_long, came_lost, came_rest}
 use Rattle.sources.proofs.drive.next_line.Goals as goal
 
 pub returns-then-buf-n-eq10 : goal.returns-then-buf-n-eq10
-returns-then-buf-n-eq10 g c = record { came = came_line c.requires c.in-Bytes.ensures c.if-buf-n-eq10.true (omega arith); keeps = c.piece.ensures.keeps }
+returns-then-buf-n-eq10 g c = (came_line c.requires c.in-Bytes.ensures c.if-buf-n-eq10.true (omega arith), c.piece.ensures.keeps)
 
 pub returns-then-n-buf : goal.returns-then-n-buf
-returns-then-n-buf g c = record { came = came_long c.requires c.in-Bytes.ensures c.if-buf-n-eq10.false (omega arith); keeps = c.piece.ensures.keeps }
+returns-then-n-buf g c = (came_long c.requires c.in-Bytes.ensures c.if-buf-n-eq10.false (omega arith), c.piece.ensures.keeps)
 
 pub returns-in-Broken-piece : goal.returns-in-Broken-piece
-returns-in-Broken-piece g c = record { came = came_lost _ c.requires c.in-Bytes.ensures c.if-buf-n-eq10.false (omega arith) (omega arith) (omega arith) c.in-Broken-piece.ensures; keeps = c.piece-in-Bytes.ensures.keeps ∙ c.piece.ensures.keeps }
+returns-in-Broken-piece g c = (came_lost _ c.requires c.in-Bytes.ensures c.if-buf-n-eq10.false (omega arith) (omega arith) (omega arith) c.in-Broken-piece.ensures, c.piece-in-Bytes.ensures.keeps ∙ c.piece.ensures.keeps)
 
 pub returns-in_default : goal.returns-in_default
-returns-in_default g c = record { came = came_rest _ c.requires c.in-Bytes.ensures c.if-buf-n-eq10.false (omega arith) (omega arith) (omega arith) (simp (length-take, length-drop) (omega (arith, (seen c.args.buf.now (g.S.Source.rest c.args.source.now) (g.S.Source.broken c.args.source.now) c.in-Bytes.n c.piece.new.buf (g.S.Source.rest c.piece.new.self) (g.S.Source.broken c.piece.new.self) c.requires c.in-Bytes.ensures).is))) c.piece-in-Bytes.ensures c.in_default.not-Broken; keeps = c.piece-in-Bytes.ensures.keeps ∙ c.piece.ensures.keeps }
+returns-in_default g c = (came_rest _ c.requires c.in-Bytes.ensures c.if-buf-n-eq10.false (omega arith) (omega arith) (omega arith) (simp (length-take, length-drop) (omega (arith, (seen c.args.buf.now (g.S.Source.text c.args.source.now).bytes (g.S.Source.text c.args.source.now).broken c.in-Bytes.n c.piece.new.buf (g.S.Source.text c.piece.new.self).bytes (g.S.Source.text c.piece.new.self).broken c.requires c.in-Bytes.ensures).is))) c.piece-in-Bytes.ensures c.in_default.not-Broken, c.piece-in-Bytes.ensures.keeps ∙ c.piece.ensures.keeps)

@@ -8,8 +8,8 @@ pub returns-in_err-taken : goal.returns-in_err-taken
 unfolding reading
 returns-in_err-taken g c =
     let p = err_from_is_err_and c.from_residual.result c.from_residual.ensures.1 in
-    record { reading = closed_err g.K.Kind.rules c.lines.ensures.course c.in_err-taken.was (p.1 ∙ ap Err p.2); keeps = c.lines.ensures.keeps }
+    closed_err g.K.Kind.rules c.lines.ensures.course c.in_err-taken.was (p.1 ∙ ap Err p.2)
 
 pub returns : goal.returns
 unfolding reading
-returns g c = record { reading = closed_ok g.K.Kind.rules c.lines.ensures.course c.in_ok-taken.was c.close.ensures c.at_line.ensures; keeps = c.lines.ensures.keeps }
+returns g c = closed_ok g.K.Kind.rules c.lines.ensures.course c.in_ok-taken.was c.close.ensures c.at_line.ensures
