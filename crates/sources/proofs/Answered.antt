@@ -2,18 +2,8 @@
 use Rattle.std.proofs.Common.{◌≡◌, ℕ, ◌<◌, Bool, cond, List, [], ◌∷◌, ◌++◌, length, take, drop, sym, refl, ap, arith, ne_eqb}
 use Rattle.sources.specs.Bytes.{moved}
 use Rattle.sources.specs.Texts.{text}
-use Rattle.sources.specs.Given.{Given, answer, ending}
+use Rattle.sources.specs.Given.{Given, ending}
 use Rattle.sources.specs.declared.source.Piece.TheVariants.{Bytes}
-
--- a buffer of no bytes
-pub given_none : (buf xs : List ℕ) (broken : Bool) → length buf ≡ 0 → Given buf (text xs broken) (Bytes 0) buf (text xs broken)
-given_none buf xs broken h =
-    let z : moved (length buf) xs ≡ 0 = omega (arith, h) in
-    record { answers = first buf xs broken h; moves = rw z; fills = rw z; keeps = refl }
-  where
-    first : (buf xs : List ℕ) (broken : Bool) → length buf ≡ 0 → Bytes 0 ≡ answer (length buf) xs broken
-    first buf [] broken h = rw h
-    first buf (x ∷ xs) broken h = let z : 0 ≡ moved (length buf) (x ∷ xs) = omega (arith, h) in ap Bytes z
 
 -- bytes are left
 pub given_bytes : (buf xs : List ℕ) (broken : Bool) (n : ℕ) (buf' xs' : List ℕ) → 0 < length xs → n ≡ moved (length buf) xs → buf' ≡ take n xs ++ drop n buf → xs' ≡ drop n xs → Given buf (text xs broken) (Bytes n) buf' (text xs' broken)

@@ -1,5 +1,4 @@
-use Rattle.std.proofs.Common.{◌≡◌, ℕ, zero, suc, ◌+◌, ◌-◌, ◌<◌, false, eqb, List, [], ◌∷◌, ◌++◌, length, get_or, take, drop, Some, None, Option, sym, refl, add-one, arith, length-drop, Bor, eq-eqb, ne_eqb}
-use Rattle.std.proofs.lemmas.List.{take_all}
+use Rattle.std.proofs.Common.{◌≡◌, ℕ, zero, suc, ◌<◌, false, eqb, List, [], ◌∷◌, ◌++◌, length, get_or, take, drop, Some, None, Option, sym, refl, arith, Bor, eq-eqb, ne_eqb}
 use Rattle.std.specs.Option.{option_map}
 use Rattle.std.proofs.lemmas.Str.Pattern.{IsSplitOnceResult, split_parts}
 use Rattle.sources.specs.Pieces.{cut, bytes_of_2}
@@ -31,10 +30,3 @@ cut-at_index c [] i l h e = absurd (omega arith)
 cut-at_index c (x ∷ xs) zero l h e = rw (eq-eqb x c e)
 cut-at_index c (x ∷ xs) (suc i) l h e =
     rw (ne_eqb x c (h 0 (omega arith)), cut-at_index c xs i (omega arith) (λ k lt. h (suc k) (omega arith)) e)
-
--- the same, as the parts `&text[0..i]` and `&text[i + 1..]` come
-pub cut-at_range : (c : ℕ) (bs : List ℕ) (i : ℕ) → i < length bs → ((k : ℕ) → k < i → get_or bs k 0 ≡ c → ⊥) → get_or bs i 0 ≡ c → Some (take (i - 0) bs, take (length bs - (i + 1)) (drop (i + 1) bs)) ≡ cut c bs
-cut-at_range c bs i l h e =
-    let a : i - 0 ≡ i = omega arith in
-    let b : take (length bs - (i + 1)) (drop (i + 1) bs) ≡ drop (i + 1) bs = take_all _ _ (simp length-drop (omega arith)) in
-    rw (a, b, add-one i) (sym (cut-at_index c bs i l h e))

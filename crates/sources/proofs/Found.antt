@@ -1,9 +1,7 @@
 -- A place that `position` answers.
-use Rattle.std.proofs.Common.{◌≡◌, ℕ, ◌<◌, ◌≤◌, Bool, true, false, cond, not, ltb, List, [], ◌∷◌, length, Some, None, Option, sym, refl, ap, ◌∙◌, arith, inl, inr, lt-ltb, le-ltb}
+use Rattle.std.proofs.Common.{◌≡◌, ℕ, ◌<◌, ◌≤◌, Bool, cond, ltb, Some, None, Option, sym, ap, ◌∙◌, arith, inl, inr, lt-ltb, le-ltb}
 use Rattle.std.specs.Option.{unwrap_or}
-use Rattle.std.specs.List.{prefix_len, position_or_len}
 use Rattle.std.proofs.lemmas.Bool.{cases_lt}
-
 
 pub found_some : {r : Option ℕ} (i p n : ℕ) → r ≡ cond (ltb p n) (Some p) None → r ≡ Some i → (i ≡ p) × (p < n)
 found_some {r} i p n e s = elim (cases_lt p n) [

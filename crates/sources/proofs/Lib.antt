@@ -15,7 +15,6 @@ pub mod Reading
 pub mod Cuts
 pub mod Ends
 pub mod Same
-pub mod Leads
 pub mod Worded
 pub mod Trims
 pub mod Spaced

@@ -1,6 +1,6 @@
 -- What the definitions say of the first record, of those behind it, and of the last.
 use Rattle.std.proofs.Common.{◌≡◌, ℕ, ◌+◌, ◌-◌, ◌<◌, ◌≤◌, min, Bool, true, false, ◌&&◌, eqb, List, [], ◌∷◌, ◌++◌, length, get_or, take, drop, sym, refl, ap, ◌∙◌, inl, inr, arith, length-drop}
-use Rattle.std.proofs.lemmas.List.{drop_all, length-take, take_all, take-take, drop-take, drop-drop}
+use Rattle.std.proofs.lemmas.List.{drop_all, length-take, take_all, drop-take, drop-drop}
 use Rattle.std.proofs.lemmas.Bool.{cases_lt}
 use Rattle.std.specs.List.{list_all}
 use Rattle.sources.specs.Records.{text_of_record, text_of_records, to_come, well_made, going, last, ending_of}

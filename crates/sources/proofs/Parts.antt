@@ -1,17 +1,16 @@
 -- Bytes of one record moved, and pieces made of several such parts.
-use Rattle.std.proofs.Common.{◌≡◌, ℕ, zero, suc, ◌+◌, ◌-◌, ◌<◌, ◌≤◌, min, Bool, true, false, cond, eqb, ◌⊎◌, List, [], ◌∷◌, ◌++◌, length, get_or, take, drop, sym, refl, ap, ◌∙◌, subst, inl, inr, append_assoc, append-nil, zero-add, arith, length-append, length-drop, eq-eqb, ne_eqb}
+use Rattle.std.proofs.Common.{◌≡◌, ℕ, zero, suc, ◌+◌, ◌-◌, ◌<◌, ◌≤◌, Bool, true, false, cond, eqb, ◌⊎◌, List, [], ◌∷◌, ◌++◌, length, get_or, take, drop, sym, ap, ◌∙◌, subst, inl, inr, append_assoc, append-nil, zero-add, arith, length-append, length-drop, eq-eqb, ne_eqb}
 use borrow.Rule.Slice.PartMut.{put_mid}
-use Rattle.sources.specs.declared.source.Piece.{Piece}
-use Rattle.std.proofs.lemmas.List.{drop_all, take_rest, length-take-le, take_all, take-take, take-append-le, drop-append-le, drop-take, drop-drop, get_or-take, take_at, drop_at}
+use Rattle.std.proofs.lemmas.List.{drop_all, take_rest, length-take-le, take_all, take-append-le, drop-append-le, drop-take, drop-drop, get_or-take, take_at, drop_at}
 use Rattle.std.proofs.lemmas.Bool.{cases_eq}
 use Rattle.sources.specs.Bytes.{through, moved}
 use Rattle.sources.specs.Texts.{text as told}
-use Rattle.sources.specs.Given.{Given, ending}
+use Rattle.sources.specs.Given.{Given}
 use Rattle.sources.specs.declared.source.Piece.TheVariants.{Bytes}
 use Rattle.sources.proofs.Through.{through-≤, through-some}
 use Rattle.sources.proofs.Split.{through-first}
-use Rattle.sources.proofs.Answered.{given_bytes, given_end}
-use Rattle.sources.specs.Records.{Part, to_come, text_of_records, records_of}
+use Rattle.sources.proofs.Answered.{given_bytes}
+use Rattle.sources.specs.Records.{Part}
 
 pub through-front : (xs ys : List ℕ) → through xs ≤ through (xs ++ ys)
 through-front [] ys = omega arith
@@ -49,9 +48,6 @@ pub record Filled (buf text : List ℕ) (n : ℕ) (buf' text' : List ℕ) : Type
   pub fits : n ≤ length text
   pub fills : buf' ≡ take n text ++ drop n buf
   pub moves : text' ≡ drop n text
-
-pub filled_none : (buf text : List ℕ) → 0 < length buf → Filled buf text 0 buf text
-filled_none buf text h = record { short = h; line = omega arith; fits = omega arith; fills = refl; moves = refl }
 
 -- the next part, moved behind them
 pub record Moved (buf text : List ℕ) (n : ℕ) (buf' text' : List ℕ) : Type 0 where
@@ -139,18 +135,6 @@ moved_on {buf} {text} {n} {buf'} {text'} m e b =
           | inr e ↦ let z : through (x ∷ xs) ≡ suc (through xs) = ap (λ (t : Bool). cond t 1 (suc (through xs))) (ne_eqb x 10 e) in
               let ih = through-on xs m (omega arith) q in omega arith
         ]
-
--- no byte is left
-pub filled-end : {buf text : List ℕ} {n : ℕ} {buf' text' : List ℕ} {broken broken' : Bool} → Filled buf text n buf' text' → broken' ≡ broken → text' ≡ [] → (n ≡ 0 → ⊥) → Given buf (told text broken) (Bytes n) buf' (told text' broken')
-filled-end {buf} {text} {n} {buf'} {text'} {broken} {broken'} f q e z =
-    let s = f.short in let h = f.line in let k = f.fits in let t : through text' ≡ 0 = ap through e in
-    rw q (given_bytes buf text broken n buf' text' (omega arith) (omega arith) f.fills f.moves)
-
-pub filled-ending : {buf text : List ℕ} {n : ℕ} {buf' text' : List ℕ} {broken broken' : Bool} {r : Piece} → Filled buf text n buf' text' → broken' ≡ broken → text' ≡ [] → n ≡ 0 → r ≡ ending broken' → Given buf (told text broken) r buf' (told text' broken')
-filled-ending {buf} {text} {n} {buf'} {text'} {broken} {broken'} {r} f q e z a =
-    let b : buf' ≡ buf = f.fills ∙ ap (λ (j : ℕ). take j text ++ drop j buf) z in
-    let t : text' ≡ text = f.moves ∙ ap (λ (j : ℕ). drop j text) z in
-    rw (a, b, t, q) (given_end buf text broken (omega (arith, f.short)) (ap length (sym t ∙ e)))
 
 pub moved_length : {buf text : List ℕ} {n : ℕ} {buf' text' : List ℕ} → Moved buf text n buf' text' → length buf' ≡ length buf
 moved_length {buf} {text} {n} {buf'} {text'} m =

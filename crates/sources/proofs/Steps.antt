@@ -1,5 +1,5 @@
 -- What one turn of the driver's loop reads, and what the definition says of it.
-use Rattle.std.proofs.Common.{◌≡◌, ℕ, ◌+◌, ◌-◌, ◌<◌, min, Bool, true, false, cond, not, eqb, ltb, List, [], ◌∷◌, ◌++◌, length, get_or, take, drop, Err, IsUtf8, sym, refl, ap, ◌∙◌, subst, inl, inr, arith, eq-eqb, ne_eqb}
+use Rattle.std.proofs.Common.{◌≡◌, ℕ, ◌+◌, ◌-◌, ◌<◌, min, Bool, true, false, cond, not, eqb, ltb, List, [], ◌∷◌, ◌++◌, length, get_or, take, drop, Err, IsUtf8, sym, refl, ap, ◌∙◌, inl, inr, arith, eq-eqb, ne_eqb}
 use Rattle.std.proofs.lemmas.List.{length-take, length-take-le, take-take, take_all, get_or-take, drop_all, take_at}
 use Rattle.std.proofs.lemmas.Bool.{cases_lt, cases_eq, cases_Bool}
 use Rattle.sources.specs.declared.reason.Reason.TheVariants as reason
@@ -159,9 +159,6 @@ text_true l u = text_formed l u
 
 pub text_false : (l : List ℕ) → (IsUtf8 l → ⊥) → is_utf8 l ≡ false
 text_false l u = elim (cases_Bool (is_utf8 l)) [ inl a ↦ absurd (u (formed-text l a)) | inr a ↦ a ]
-
-pub seen-in : (room : ℕ) (buf xs : List ℕ) (broken : Bool) (n : ℕ) (buf' xs' : List ℕ) (broken' : Bool) → length buf ≡ room → 0 < room → Given buf (text xs broken) (Bytes n) buf' (text xs' broken') → Seen room xs n buf'
-seen-in room buf xs broken n buf' xs' broken' e h g = subst (λ (r : ℕ). Seen r xs n buf') e (seen buf xs broken n buf' xs' broken' (omega arith) g)
 
 pub left_is : (buf xs : List ℕ) (broken : Bool) (n : ℕ) (buf' xs' : List ℕ) (broken' : Bool) → 0 < length buf → Given buf (text xs broken) (Bytes n) buf' (text xs' broken') → xs' ≡ drop n xs
 left_is buf xs broken n buf' xs' broken' h g = g.moves ∙ ap (λ (k : ℕ). drop k xs) (sym (seen buf xs broken n buf' xs' broken' h g).is)

@@ -1,18 +1,8 @@
 -- What `through` is at one more byte, and its bounds.
 use Rattle.std.specs.List.{position_or_len}
 use Rattle.std.proofs.lemmas.Bool.Decides.{nat_tests}
-use Rattle.std.proofs.Common.{◌≡◌, ℕ, zero, suc, ◌+◌, ◌<◌, ◌≤◌, min, Bool, true, false, cond, not, eqb, ltb, take, List, [], ◌∷◌, length, get_or, drop, sym, refl, ap, ◌∙◌, arith, lt-ltb, eq-eqb, ne_eqb}
-use Rattle.std.proofs.lemmas.List.{drop_more, drop_all}
+use Rattle.std.proofs.Common.{◌≡◌, ℕ, zero, suc, ◌+◌, ◌<◌, ◌≤◌, min, Bool, true, false, cond, not, eqb, ltb, take, List, [], ◌∷◌, length, sym, refl, ap, arith, lt-ltb}
 use Rattle.sources.specs.Bytes.{through}
-
-pub through-at : (xs : List ℕ) (n : ℕ) → n < length xs → get_or xs n 0 ≡ 10 → through (drop n xs) ≡ 1
-through-at xs n h e = ap through (drop_more xs n 0 h) ∙ ap (λ (t : Bool). cond t 1 (suc (through (drop (n + 1) xs)))) (eq-eqb (get_or xs n 0) 10 e)
-
-pub through-past : (xs : List ℕ) (n : ℕ) → n < length xs → (get_or xs n 0 ≡ 10 → ⊥) → through (drop n xs) ≡ suc (through (drop (n + 1) xs))
-through-past xs n h e = ap through (drop_more xs n 0 h) ∙ ap (λ (t : Bool). cond t 1 (suc (through (drop (n + 1) xs)))) (ne_eqb (get_or xs n 0) 10 e)
-
-pub through-end : (xs : List ℕ) (n : ℕ) → length xs ≤ n → through (drop n xs) ≡ 0
-through-end xs n h = ap through (drop_all n xs h)
 
 pub through-≤ : (xs : List ℕ) → through xs ≤ length xs
 through-≤ [] = omega arith

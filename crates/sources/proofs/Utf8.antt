@@ -1,7 +1,6 @@
 -- The table agrees with the library's notion of UTF-8.
 use Rattle.std.proofs.Common.{◌≡◌, ℕ, zero, suc, ◌+◌, ◌-◌, ◌*◌, ◌/◌, ◌%◌, ◌<◌, ◌≤◌, Bool, true, false, ◌&&◌, leb, ◌⊎◌, List, [], ◌∷◌, ◌++◌, length, Some, None, IsUtf8, Option, sym, refl, ap, ◌∙◌, subst, inl, inr, arith, le-ltb, lt-ltb, le-leb, leb-true}
 use lib.Utf8.{encode, encodes, scalar, scalars, scalar_cases}
-use borrow.Author.Tests.{lt-leb}
 use Rattle.std.proofs.lemmas.Bool.Decides.{nat_tests}
 use Rattle.std.proofs.lemmas.Bool.{cases_lt}
 use Rattle.std.proofs.lemmas.Str.{encode_ascii, IsUtf8-append, IsUtf8-encode, IsUtf8-nil}
@@ -13,13 +12,6 @@ both false y e = let z : ◌≡◌ {A = ℕ} 0 1 = cc in absurd (omega arith)
 
 pub in_yes : (r : Range) (b : ℕ) → r.0 ≤ b → b ≤ r.1 → inside r b ≡ true
 in_yes r b h k = ap (λ (t : Bool). t && leb b r.1) (le-leb r.0 b h) ∙ le-leb b r.1 k
-
-pub in_above : (r : Range) (b : ℕ) → r.1 < b → inside r b ≡ false
-in_above r b h = and-false (leb r.0 b) (leb b r.1) (lt-leb b r.1 h)
-  where
-    and-false : (x y : Bool) → y ≡ false → x && y ≡ false
-    and-false true y e = e
-    and-false false y e = refl
 
 row_1 : (b : ℕ) → b ≤ 0x7F → row_for table b ≡ Some []
 row_1 b h = grind (arith, nat_tests)

@@ -2,17 +2,16 @@ use Rattle.std.proofs.Common.{◌≡◌, ℕ, ◌+◌, ◌<◌, Bool, true, fals
 use Rattle.std.specs.Char.{is_ascii_whitespace}
 use Rattle.std.specs.Str.{IsCharBoundary}
 use Rattle.std.specs.List.{prefix_len}
-use Rattle.std.proofs.lemmas.List.Sums.{prefix_len-le-length}
+use Rattle.std.proofs.lemmas.List.Sums.{prefix_len-le-length, prefix_len_is}
 use Rattle.std.proofs.lemmas.Bool.Decides.{nat_tests}
 use Rattle.sources.specs.Words.{in_word, skipped, parted, next_word}
-use Rattle.sources.proofs.Leads.{leading-is}
 
 -- what `trim_ascii_start` says
 abbrev pub Skips : List ℕ → List ℕ → Type 0
 Skips bs r = (n : ℕ) × (r ≡ drop n bs) × (length r + n ≡ length bs) × ((i : ℕ) → i < n → is_ascii_whitespace (get_or bs i 0) ≡ true) × (n < length bs → is_ascii_whitespace (get_or bs n 0) ≡ false)
 
 pub skip_is : (bs r : List ℕ) → Skips bs r → r ≡ skipped bs
-skip_is bs r h = h.1 ∙ sym (ap (λ (n : ℕ). drop n bs) (leading-is is_ascii_whitespace bs h.0 (omega arith) h.3 h.4))
+skip_is bs r h = h.1 ∙ sym (ap (λ (n : ℕ). drop n bs) (prefix_len_is is_ascii_whitespace bs h.0 0 (omega arith) h.3 h.4))
 
 fails_at : (p : ℕ → Bool) (x n : ℕ) (xs : List ℕ) (b : Bool) → p x ≡ b → (n < length xs → p (get_or xs n 0) ≡ false) → cond b (1 + n) 0 < length (x ∷ xs) → p (get_or (x ∷ xs) (cond b (1 + n) 0) 0) ≡ false
 fails_at p x n xs true e f h = rw (one-add n) (f (omega arith))

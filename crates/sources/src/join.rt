@@ -15,6 +15,7 @@ impl<A: Source, B: Source> Join<A, B> {
     pub fn new(first: A, second: B) -> Join<A, B>
         ensures first { result.first ≡ first }
         ensures second { result.second ≡ second }
+        ensures text { ⟦<Join<A, B> as Source>⟧.text result ≡ joined (A.text first) (B.text second) }
     {
         Join { first, second }
     }

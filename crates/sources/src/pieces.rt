@@ -17,10 +17,7 @@ pub fn cut(text: &str, at: char) -> Option<(&str, &str)>
 pub fn up_to(text: &str, at: char) -> &str
     ensures { result.now ≡ up_to_of at text.now }
 {
-    match cut(text, at) {
-        Some((front, _)) => front,
-        None => text,
-    }
+    cut(text, at).map_or(text, |(front, _)| front)
 }
 
 // The text without white space around it.

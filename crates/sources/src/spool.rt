@@ -27,7 +27,7 @@ fn size(one: &Record) -> usize
 
 impl<'a> Spool<'a> {
     pub fn new(recording: &'a [u8]) -> Result<Spool<'a>, Refusal>
-        ensures { elim result [ Ok s ↦ (recorded recording.now ≡ true) × (to_come s.records.now s.used ≡ text_of_records (records_of recording.now)) × (ending_of s.records.now ≡ ending_of (records_of recording.now)) | Err e ↦ (recorded recording.now ≡ false) × (e ≡ refused reason.Spool 0) ] }
+        ensures { elim result [ Ok s ↦ (recorded recording.now ≡ true) × (⟦<Spool<'a> as Source>⟧.text s ≡ text (text_of_records (records_of recording.now)) (ending_of (records_of recording.now))) | Err e ↦ (recorded recording.now ≡ false) × (e ≡ refused reason.Spool 0) ] }
     {
         let records = records_in(recording).ok_or(Refusal::new(Reason::Spool, 0))?;
         Ok(Spool { records, used: 0 })

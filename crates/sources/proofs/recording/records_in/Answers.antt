@@ -1,4 +1,4 @@
-use Rattle.std.proofs.Common.{◌≡◌, ℕ, ◌/◌, ◌%◌, Bool, true, false, ◌&&◌, eqb, List, [], ◌∷◌, ◌++◌, length, sym, refl, ap, ◌∙◌, arith, rules, tests, eq-eqb, ne_eqb}
+use Rattle.std.proofs.Common.{◌≡◌, ℕ, ◌/◌, ◌%◌, Bool, true, false, ◌&&◌, eqb, List, [], ◌∷◌, ◌++◌, length, sym, refl, ap, ◌∙◌, arith, rules, tests}
 use Rattle.std.proofs.lemmas.Iterator.{YieldsList-from_slice}
 use Rattle.std.proofs.lemmas.Iterator.Search.{all_from_yields_List}
 use Rattle.std.specs.List.{list_all}
@@ -29,9 +29,11 @@ pub returns-then-last : goal.returns-then-last
 unfolding records_of
 returns-then-last c =
     let all : c.all.result ≡ list_all going c.in_ok-end.before.now = all_from_yields_List going _ _ c.all.result c.all.ensures.ran (YieldsList-from_slice c.in_ok-end.before.now cc) (λ x b q k. search (rules, tests)) in
-    let r = recorded_by c.args.bytes.now c.in_ok-end.before.now c.in_ok-end.end.now (length c.as_chunks.result.1.now) (sym c.as_chunks.ensures.front ∙ c.in_ok-end.ensures.cases.0) c.as_chunks.ensures.back_len in
-    (r ∙ ap (λ (b : Bool). b && (list_all going c.in_ok-end.before.now && last c.in_ok-end.end.now)) (sym c.is_empty.ensures ∙ c.if-is_empty.true)
-     ∙ ap (λ (b : Bool). b && last c.in_ok-end.end.now) (sym all ∙ c.if-all.true) ∙ sym c.last.ensures ∙ c.if-last.true, c.as_chunks.ensures.front)
+    let r = recorded_by c.args.bytes.now c.in_ok-end.before.now c.in_ok-end.end.now (length c.as_chunks.result.1.now) (sym c.as_chunks.ensures.front ∙ c.in_ok-end.ensures.cases.0) c.as_chunks.ensures.back_len in (
+      r ∙ ap (λ (b : Bool). b && (list_all going c.in_ok-end.before.now && last c.in_ok-end.end.now)) (sym c.is_empty.ensures ∙ c.if-is_empty.true)
+          ∙ ap (λ (b : Bool). b && last c.in_ok-end.end.now) (sym all ∙ c.if-all.true) ∙ sym c.last.ensures ∙ c.if-last.true,
+      c.as_chunks.ensures.front,
+    )
 
 pub returns-else-is_empty : goal.returns-else-is_empty
 returns-else-is_empty c =

@@ -1,4 +1,4 @@
-use Rattle.std.proofs.Common.{◌≡◌, ◌+◌, Bool, cond, eqb, ltb, Some, None, length, take, sym, ap, ◌∙◌, arith, rules, tests, lt-ltb, le-ltb}
+use Rattle.std.proofs.Common.{◌+◌, Bool, cond, eqb, length, take, ap, ◌∙◌, arith, rules, tests, lt-ltb, le-ltb}
 use Rattle.std.proofs.lemmas.Iterator.{YieldsList-from_slice}
 use Rattle.std.proofs.lemmas.Iterator.Search.{position_from_yields_List}
 use Rattle.std.specs.List.{position_or_len}

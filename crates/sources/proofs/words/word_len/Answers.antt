@@ -1,4 +1,4 @@
-use Rattle.std.proofs.Common.{◌≡◌, cond, ltb, Some, None, length, ◌∙◌, rules, tests}
+use Rattle.std.proofs.Common.{length, ◌∙◌, rules, tests}
 use Rattle.std.specs.Char.{is_ascii_whitespace}
 use Rattle.std.specs.List.{position_or_len}
 use Rattle.std.proofs.lemmas.Iterator.{YieldsList-from_slice}

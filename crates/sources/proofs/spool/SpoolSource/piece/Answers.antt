@@ -1,4 +1,4 @@
-use Rattle.std.proofs.Common.{sym, refl, ap, ◌∙◌, inl, inr}
+use Rattle.std.proofs.Common.{sym, refl, ◌∙◌, inl, inr}
 use Rattle.sources.proofs.Parts.{more-moved, moved-end, moved_on, moved_length}
 use Rattle.sources.proofs.spool.SpoolSource.piece.Goals.{then-n-buf-via-then-n-buf, then-n-buf-via-else-n-buf+then-buf-n-eq10}
 use Rattle.sources.proofs.spool.SpoolSource.piece.Goals as goal
