@@ -16,6 +16,3 @@ pub closed_err : {M C : Type 0} (R : Rules M C) {o : Result ℕ Refusal × M × 
     (v, m, left) ≡ o → v ≡ Err f → s ≡ Err f → (s, left) ≡ closes R o
 closed_err {M} {C} R {o} {v} {m} {left} {f} {s} e a b =
     ap (λ (x : Result C Refusal). (x, left)) b ∙ ap (closes R) (ap (λ (x : Result ℕ Refusal). (x, m, left)) (sym a) ∙ e)
-
-pub meaning_of : {M : Type 0} {o : Result ℕ Refusal × M × Text} {v : Result ℕ Refusal} {m : M} {left : Text} → (v, m, left) ≡ o → m ≡ o.1
-meaning_of {M} {o} {v} {m} {left} e = ap (λ (x : Result ℕ Refusal × M × Text). x.1) e

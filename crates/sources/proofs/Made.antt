@@ -1,6 +1,6 @@
 -- What the definitions say of the first record, of those behind it, and of the last.
-use Rattle.std.proofs.Common.{◌≡◌, ℕ, ◌+◌, ◌-◌, ◌<◌, ◌≤◌, min, Bool, true, false, ◌&&◌, eqb, List, [], ◌∷◌, ◌++◌, length, get_or, take, drop, sym, refl, ap, ◌∙◌, inl, inr, arith, length-drop}
-use Rattle.std.proofs.lemmas.List.{drop_all, length-take, take_all, drop-take, drop-drop}
+use Rattle.std.proofs.Common.{◌≡◌, ℕ, ◌+◌, ◌-◌, ◌≤◌, min, Bool, true, false, ◌&&◌, eqb, List, [], ◌∷◌, ◌++◌, length, get_or, take, drop, sym, refl, ap, ◌∙◌, inl, inr, arith, length-drop}
+use Rattle.std.proofs.lemmas.List.{take_all, drop-take, drop-drop}
 use Rattle.std.proofs.lemmas.Bool.{cases_lt}
 use Rattle.std.specs.List.{list_all}
 use Rattle.sources.specs.Records.{text_of_record, text_of_records, to_come, well_made, going, last, ending_of}
@@ -31,14 +31,6 @@ text_from r u m l h e =
     ∙ drop-take u (m - u) (drop 2 r)
     ∙ ap (take (m - u)) (drop-drop u 2 r)
 
--- nothing is left of a record
-pub text_given : (r : List ℕ) (u : ℕ) → length r ≡ 64 → min (get_or r 0 0) 62 ≤ u → drop u (text_of_record r) ≡ []
-text_given r u l h =
-    drop_all u (text_of_record r) (
-    let a = length-take (get_or r 0 0) (drop 2 r) in
-    let b = length-drop 2 r in
-    omega arith)
-
 -- Records of which all but the last are followed by others.
 pub well_made_end : (rs : List (List ℕ)) (r : List ℕ) → well_made (rs ++ (r ∷ [])) ≡ list_all going rs && last r
 well_made_end [] r = refl
@@ -50,17 +42,6 @@ pub ending-end : (rs : List (List ℕ)) (r : List ℕ) → ending_of (rs ++ (r �
 ending-end [] r = refl
 ending-end (s ∷ []) r = refl
 ending-end (s ∷ t ∷ rs) r = ending-end (t ∷ rs) r
-
-pub to_come-next : {rs : List (List ℕ)} {r : List ℕ} {others : List (List ℕ)} (u : ℕ) → rs ≡ r ∷ others → length r ≡ 64 → min (get_or r 0 0) 62 ≤ u → to_come rs u ≡ to_come others 0
-to_come-next {rs} {r} {others} u e l h = ap (λ (l : List (List ℕ)). to_come l u) e ∙ ap (λ (t : List ℕ). t ++ text_of_records others) (text_given r u l h) ∙ sym (to_come-start others)
-
-pub to_come-last : {rs : List (List ℕ)} {r : List ℕ} {others : List (List ℕ)} (u : ℕ) → rs ≡ r ∷ others → length r ≡ 64 → min (get_or r 0 0) 62 ≤ u → length others ≡ 0 → to_come rs u ≡ []
-to_come-last {others = []} u e l h z = to_come-next u e l h
-to_come-last {others = s ∷ others} u e l h z = absurd (omega arith)
-
-pub ending-next : {rs : List (List ℕ)} {r : List ℕ} {others : List (List ℕ)} → rs ≡ r ∷ others → 0 < length others → ending_of others ≡ ending_of rs
-ending-next {others = []} e h = absurd (omega arith)
-ending-next {others = s ∷ others} e h = sym (ap ending_of e)
 
 -- the text to come, where the first record has some: that, from `used` on and up to its end m, and then the other records'
 pub to_come-here : {rs : List (List ℕ)} {r : List ℕ} {others : List (List ℕ)} (u m : ℕ) → rs ≡ r ∷ others → length r ≡ 64 → u ≤ m → m ≡ min (get_or r 0 0) 62 → to_come rs u ≡ take (m - u) (drop (2 + u) r) ++ text_of_records others
