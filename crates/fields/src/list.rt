@@ -37,17 +37,11 @@ impl From<ListFault> for Fault {
 pub fn read_list<'a, I: Item, P: Parts<'a> + Drop, const N: usize>(
     mut parts: P,
 ) -> Result<Counted<I::Value, N>, ListFault>
-    ensures { result ≡ filled I.Item.reading I.Item.blank N (P.Parts.rest parts) }
+    ensures { (blank : I.Value) × I.Value.is_default blank × (result ≡ filled I.Item.reading blank N (P.Parts.rest parts)) }
 {
-    let mut cells = [I::blank(); N];
-    let mut len: usize = 0;
+    let mut list = Counted::default();
     while let Some(part) = parts.next_part() {
-        let value = I::read(part)?;
-        if len == N {
-            return Err(ListFault::Full);
-        }
-        cells[len] = value;
-        len += 1;
+        list.push(I::read(part)?)?;
     }
-    Ok(Counted { cells, len })
+    Ok(list)
 }

@@ -8,7 +8,7 @@ ghost use Rattle.fields.specs.Parts.{between};
 ghost use Rattle.fields.specs.Values.{kilobytes_of, word_of, four_of, pair_of, groups_of, spaces_of, mask_of, ranges_of, or_missing, flag_of};
 
 use crate::counted::Counted;
-use crate::item::Item;
+use crate::item::{Group, Process, Range, Word};
 use crate::list::{ListFault, read_list};
 use crate::parts::Commas;
 use sources::fault::Fault;
@@ -87,46 +87,30 @@ pub fn pair(text: &str) -> Result<(u64, u64), Fault>
     Ok((a, b))
 }
 
-// A list of items between white space.
-fn words_list<I: Item, const N: usize>(text: &str) -> Result<Counted<I::Value, N>, Fault>
-    ensures { result ≡ as_list (filled I.Item.reading I.Item.blank N (white_words text.now)) }
-{
-    let items = read_list::<I, Words<'_>, N>(Words::new(text))?;
-    Ok(items)
-}
-
-// A list of items between commas.
-fn commas_list<I: Item, const N: usize>(text: &str) -> Result<Counted<I::Value, N>, ListFault>
-    ensures { result ≡ filled I.Item.reading I.Item.blank N (between 44 text.now) }
-{
-    read_list::<I, Commas<'_>, N>(Commas::new(text))
-}
-
 pub fn groups(text: &str) -> Result<Counted<u32, 128>, Fault>
     ensures { result ≡ groups_of text.now }
 {
-    words_list::<crate::item::Group, 128>(text)
+    Ok(read_list::<Group, _, 128>(Words::new(text))?)
 }
 
 // A process in each of its name spaces.
 pub fn spaces(text: &str) -> Result<Counted<i32, 32>, Fault>
     ensures { result ≡ spaces_of text.now }
 {
-    words_list::<crate::item::Process, 32>(text)
+    Ok(read_list::<Process, _, 32>(Words::new(text))?)
 }
 
 pub fn mask(text: &str) -> Result<Counted<u32, 256>, Fault>
     ensures { result ≡ mask_of text.now }
 {
-    let words = commas_list::<crate::item::Word, 256>(text)?;
-    Ok(words)
+    Ok(read_list::<Word, _, 256>(Commas::new(text))?)
 }
 
 // A bad range makes the list count as missing.
 pub fn ranges(text: &str) -> Result<Option<Counted<(u32, u32), 128>>, Fault>
     ensures { result ≡ ranges_of text.now }
 {
-    match commas_list::<crate::item::Range, 128>(text) {
+    match read_list::<Range, _, 128>(Commas::new(text)) {
         Ok(list) => Ok(Some(list)),
         Err(ListFault::Bad) => Ok(None),
         Err(ListFault::Full) => Err(Fault::new(Reason::Full)),
