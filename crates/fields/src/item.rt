@@ -73,16 +73,10 @@ impl Item for Range {
     ghost reading = { range_of };
 
     fn read(piece: &str) -> Result<(u32, u32), NumberFault> {
-        match cut(piece, '-') {
-            Some((first, rest)) => {
-                let a = <u32 as FromStrRadix>::from_str_radix(first, Radix::Decimal)?;
-                let b = <u32 as FromStrRadix>::from_str_radix(up_to(rest, '-'), Radix::Decimal)?;
-                Ok((a, b))
-            }
-            None => {
-                let n = <u32 as FromStrRadix>::from_str_radix(piece, Radix::Decimal)?;
-                Ok((n, n))
-            }
-        }
+        let (first, last) = cut(piece, '-').unwrap_or((piece, piece));
+        Ok((
+            <u32 as FromStrRadix>::from_str_radix(first, Radix::Decimal)?,
+            <u32 as FromStrRadix>::from_str_radix(up_to(last, '-'), Radix::Decimal)?,
+        ))
     }
 }
