@@ -1,5 +1,6 @@
 -- How the value of a field is read.
-use Rattle.std.specs.Prelude.{ℕ, Bool, List, ℤ, pos, Some, None, Ok, Err, codes, Option, Result}
+use Rattle.std.specs.Prelude.{ℕ, Bool, List, ℤ, pos, Some, None, Ok, Err, codes, Option, Result, ◌==◌}
+use Rattle.std.specs.List.{slice_split}
 use Rattle.std.specs.Option.{ok_or, unwrap_or}
 use Rattle.std.specs.Str.{bytes_eq}
 use Rattle.sources.specs.declared.fault.Fault.{Fault}
@@ -17,7 +18,6 @@ use Rattle.fields.specs.declared.list.ListFault.TheVariants as list
 use Rattle.fields.specs.declared.value.Four.{Four}
 use Rattle.fields.specs.Items.{range_of}
 use Rattle.fields.specs.Lists.{filled, as_list, list_fault_for}
-use Rattle.fields.specs.Parts.{between}
 
 -- A number of so many bits, and one of 32 bits with its sign.
 abbrev pub figure_of : ℕ → Radix → List ℕ → Result ℕ Fault
@@ -60,9 +60,13 @@ groups_of bs = as_list (filled (unsigned 32 Decimal) 0 128 (white_words bs))
 abbrev pub spaces_of : List ℕ → Result (Counted ℤ 32) Fault
 spaces_of bs = as_list (filled (signed 31 Decimal) (pos 0) 32 (white_words bs))
 
+-- The parts between commas: one more than there are commas, so an empty text is one empty part.
+abbrev pub comma_parts : List ℕ → List (List ℕ)
+comma_parts bs = slice_split (λ b. b == 44) bs
+
 -- At most 256 words of a mask, between commas.
 abbrev pub mask_of : List ℕ → Result (Counted ℕ 256) Fault
-mask_of bs = as_list (filled (unsigned 32 Hexadecimal) 0 256 (between 44 bs))
+mask_of bs = as_list (filled (unsigned 32 Hexadecimal) 0 256 (comma_parts bs))
 
 -- A bad item makes the list count as missing.
 abbrev pub or_missing : {X : Type 0} → Result X ListFault → Result (Option X) Fault
@@ -72,7 +76,7 @@ or_missing {X} (Err list.Full) = Err (list_fault_for list.Full)
 
 -- At most 128 ranges, between commas.
 abbrev pub ranges_of : List ℕ → Result (Option (Counted (ℕ × ℕ) 128)) Fault
-ranges_of bs = or_missing (filled range_of (0, 0) 128 (between 44 bs))
+ranges_of bs = or_missing (filled range_of (0, 0) 128 (comma_parts bs))
 
 -- Whether the value is 1.
 abbrev pub flag_of : List ℕ → Bool

@@ -2,12 +2,13 @@ ghost use Rattle.std.specs.Prelude.{◌≡◌};
 ghost use Rattle.std.specs.Option.{option_map};
 ghost use Rattle.sources.specs.Faults.{as_fault};
 ghost use Rattle.sources.specs.Pieces.{bytes_of};
-ghost use Rattle.fields.specs.Values.{kilobytes_of, word_of, four_of, two_of, pair_of, groups_of, spaces_of, mask_of, ranges_of, flag_of};
+ghost use Rattle.sources.specs.White.{white_words};
+ghost use Rattle.fields.specs.Lists.{filled};
+ghost use Rattle.fields.specs.Values.{comma_parts, kilobytes_of, word_of, four_of, two_of, pair_of, groups_of, spaces_of, mask_of, ranges_of, flag_of};
 
 use crate::counted::Counted;
-use crate::item::{Group, Process, Range, Word};
+use crate::item::{Group, Item, Process, Range, Word};
 use crate::list::{ListFault, read_list};
-use crate::parts::Commas;
 use sources::fault::Fault;
 use sources::number::{FromStrRadix, Radix};
 use sources::pieces::{cut, shorn, up_to};
@@ -82,30 +83,44 @@ pub fn pair(text: &str) -> Result<(u64, u64), Fault>
     two_figures(text, '/', Radix::Decimal)
 }
 
+// A list of the items that the words of a text mean.
+fn words_list<I: Item, const N: usize>(text: &str) -> Result<Counted<I::Value, N>, ListFault>
+    ensures { (blank : I.Value) × I.Value.is_default blank × (result ≡ filled I.Item.reading blank N (white_words text.now)) }
+{
+    read_list::<I, _, N>(text.split_whitespace())
+}
+
+// A list of the items between commas.
+fn commas_list<I: Item, const N: usize>(text: &str) -> Result<Counted<I::Value, N>, ListFault>
+    ensures { (blank : I.Value) × I.Value.is_default blank × (result ≡ filled I.Item.reading blank N (comma_parts text.now)) }
+{
+    read_list::<I, _, N>(text.split(','))
+}
+
 pub fn groups(text: &str) -> Result<Counted<u32, 128>, Fault>
     ensures { result ≡ groups_of text.now }
 {
-    Ok(read_list::<Group, _, 128>(Words::new(text))?)
+    Ok(words_list::<Group, 128>(text)?)
 }
 
 // A process in each of its name spaces.
 pub fn spaces(text: &str) -> Result<Counted<i32, 32>, Fault>
     ensures { result ≡ spaces_of text.now }
 {
-    Ok(read_list::<Process, _, 32>(Words::new(text))?)
+    Ok(words_list::<Process, 32>(text)?)
 }
 
 pub fn mask(text: &str) -> Result<Counted<u32, 256>, Fault>
     ensures { result ≡ mask_of text.now }
 {
-    Ok(read_list::<Word, _, 256>(Commas::new(text))?)
+    Ok(commas_list::<Word, 256>(text)?)
 }
 
 // A bad range makes the list count as missing.
 pub fn ranges(text: &str) -> Result<Option<Counted<(u32, u32), 128>>, Fault>
     ensures { result ≡ ranges_of text.now }
 {
-    match read_list::<Range, _, 128>(Commas::new(text)) {
+    match commas_list::<Range, 128>(text) {
         Ok(list) => Ok(Some(list)),
         Err(ListFault::Bad) => Ok(None),
         Err(ListFault::Full) => Err(Fault::new(Reason::Full)),
