@@ -1,4 +1,3 @@
-mod Cells
 mod Fills
 pub mod Told
 pub mod Puts

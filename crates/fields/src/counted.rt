@@ -1,7 +1,15 @@
-ghost use Rattle.std.specs.Prelude.{◌≡◌, [], take, if◌then◌else◌, nat_lt};
+ghost use Rattle.std.specs.Prelude.{◌≡◌, ◌≤◌, [], length, take, if◌then◌else◌, nat_lt};
 ghost use Rattle.fields.specs.Counted.{counted, with_item, text_of};
 
 use crate::list::ListFault;
+
+// The first n items, or all.
+fn front<T>(items: &[T], n: usize) -> &[T]
+    ensures items { result.now ≡ take n items.now }
+    ensures bound { length result.now ≤ n }
+{
+    items.get(..n).unwrap_or(items)
+}
 
 // A list of at most N items: the first `len` cells count, and the others are blank. It is a table and no Vec, since the libraries allocate nothing, and so it is `Copy`.
 #[derive(Clone, Copy)]
@@ -29,7 +37,7 @@ impl<T: Copy, const N: usize> Counted<T, N> {
     pub fn items(&self) -> &[T]
         ensures { result.now ≡ take self.now.len self.now.cells }
     {
-        self.cells.get(..self.len).unwrap_or(&self.cells)
+        front(&self.cells, self.len)
     }
 
     // Puts an item behind those in the list, where there is room.
@@ -50,9 +58,11 @@ impl<T: Copy, const N: usize> Counted<T, N> {
 pub fn copied(text: &str) -> Text
     ensures { result ≡ text_of text.now }
 {
-    let bytes = text.as_bytes();
-    let len = bytes.len().min(4096);
+    let kept = front(text.as_bytes(), 4096);
     let mut cells = [0; 4096];
-    cells[..len].copy_from_slice(&bytes[..len]);
-    Counted { cells, len }
+    cells[..kept.len()].copy_from_slice(kept);
+    Counted {
+        cells,
+        len: kept.len(),
+    }
 }

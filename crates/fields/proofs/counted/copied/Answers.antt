@@ -1,13 +1,10 @@
-use Rattle.std.proofs.Common.{◌≡◌, ℕ, List, ◌++◌, take, drop, replicate, ap, ◌∙◌, arith}
-use Rattle.std.proofs.lemmas.Grind.{common_steps}
+use Rattle.std.proofs.Common.{◌≡◌, take, rules}
+use Rattle.std.proofs.lemmas.List.{drop-replicate}
 use Rattle.fields.specs.Counted.{text_of}
-use Rattle.fields.proofs.Cells.{written}
 use Rattle.fields.proofs.counted.copied.Goals as goal
 
 pub returns : goal.returns
 unfolding text_of
 returns c =
-    let bs : List ℕ = c.args.text.now in
-    let r = c.min-len.result in
-    let h : c.copy_from_slice.new.self ≡ take r bs = grind (arith, common_steps) in
-    written 4096 0 r bs _ (omega (arith, c.as_bytes-bytes.ensures.len)) (ap (λ (ys : List ℕ). ys ++ drop r (replicate 4096 0)) h)
+    let k : c.front-kept.result.now ≡ take 4096 c.args.text.now = search rules in
+    rw (c.copy_from_slice.ensures.after, k, drop-replicate)
