@@ -12,7 +12,8 @@ use Rattle.sources.specs.Utf8.{is_utf8}
 use Rattle.sources.proofs.Steps.{judged-long, judged-past, judged-cut, judged-text, judged-kind}
 use Rattle.sources.proofs.Walks.{ends, no}
 use Rattle.fields.specs.Slots.{entered, after_entry}
-use Rattle.fields.specs.Slotted.{State, filling, settled, fault_of, slot_rules}
+use Rattle.std.specs.Result.{result_err}
+use Rattle.fields.specs.Slotted.{slot_rules}
 use Rattle.fields.specs.LastLines.{breaks, before, through, breaks_off, good, sound, Orderly, put, entries_of, last_lines}
 
 not_true : {A : Type 0} → ◌≡◌ {A = Bool} false true → A
@@ -64,7 +65,7 @@ off_ok {M} {C} R Ends k m left c e h q = let z : ◌≡◌ {A = ℕ} 0 1 = cc in
 
 module _ {E S R : Type 0} (entry : List ℕ → Result (Option E) Fault) (fill : List E → S → S) (judges : S → Result R Fault) (fresh : S) (on_break : Break)
     (more : (e : E) (es : List E) → fill (e ∷ []) (fill es fresh) ≡ fill (e ∷ es) fresh) where
-  abbrev rules : Rules (State S) R
+  abbrev rules : Rules (Result S Fault) R
   rules = slot_rules (λ s l. after_entry fill s (entry l)) judges on_break
 
   -- one entry more
@@ -73,12 +74,12 @@ module _ {E S R : Type 0} (entry : List ℕ → Result (Option E) Fault) (fill :
   entered-put (Some e) es = more e es
 
   -- a good line goes on with its entry
-  good-on : (r : Result (Option E) Fault) (es : List E) → good r ≡ true → settled (after_entry fill (fill es fresh) r) ≡ filling (fill (put r es) fresh)
-  good-on (Ok o) es g = ap (λ (s : S). filling s) (entered-put o es)
+  good-on : (r : Result (Option E) Fault) (es : List E) → good r ≡ true → after_entry fill (fill es fresh) r ≡ Ok (fill (put r es) fresh)
+  good-on (Ok o) es g = ap (λ (s : S). Ok s) (entered-put o es)
   good-on (Err f) es g = not_true g
 
   -- a line that is not refused was good
-  on_good : (r : Result (Option E) Fault) (s : S) → fault_of (settled (after_entry fill s r)) ≡ None → good r ≡ true
+  on_good : (r : Result (Option E) Fault) (s : S) → result_err (after_entry fill s r) ≡ None → good r ≡ true
   on_good (Ok o) s e = refl
   on_good (Err f) s e = let z : ◌≡◌ {A = ℕ} 0 1 = cc in absurd (omega arith)
 
@@ -121,18 +122,18 @@ module _ {E S R : Type 0} (entry : List ℕ → Result (Option E) Fault) (fill :
   off_off broken l ls e = rw e
 
   -- the end of the text
-  over : (k : ℕ) (es : List E) (broken : Bool) → (on_break ≡ Refuses → broken ≡ false) → ends rules (ending on_break broken k, filling (fill es fresh), []) ≡ answer k es broken []
+  over : (k : ℕ) (es : List E) (broken : Bool) → (on_break ≡ Refuses → broken ≡ false) → ends rules (ending on_break broken k, Ok (fill es fresh), []) ≡ answer k es broken []
   unfolding before entries_of
   over k es false w = let z : k + 0 ≡ k = omega arith in rw z
-  over k es true w = let z : k + 0 ≡ k = omega arith in rw z (off_ends rules on_break k (filling (fill es fresh)) [] refl (λ q. not_false (w q)))
+  over k es true w = let z : k + 0 ≡ k = omega arith in rw z (off_ends rules on_break k (Ok (fill es fresh)) [] refl (λ q. not_false (w q)))
 
   forward : (most : ℕ) (broken : Bool) (k s : ℕ) (es : List E) (ls : List (List ℕ)) → sound entry broken ls ≡ true → s + length (text_of (through broken ls)) ≤ most → (on_break ≡ Refuses → breaks_off broken ls ≡ false) →
-      ends rules (walk 4096 most rules broken k s (filling (fill es fresh)) ls) ≡ answer k es broken ls
+      ends rules (walk 4096 most rules broken k s (Ok (fill es fresh)) ls) ≡ answer k es broken ls
   unfolding walk sound breaks_off
   forward most broken k s es [] h f w = over k es broken w
   forward most broken k s es (l ∷ ls) h f w =
-      let m = filling (fill es fresh) in
-      let go : State S → Outcome (State S) = λ st. walk 4096 most rules broken (k + 1) (s + length l) st ls in
+      let m = Ok (fill es fresh) in
+      let go : Result S Fault → Outcome (Result S Fault) = λ st. walk 4096 most rules broken (k + 1) (s + length l) st ls in
       let p = sound-parts (long 4096 l) (breaks broken l) (good (entry l)) (sound entry broken ls) h in
       elim (brought 4096 most rules broken k s m l (text_of ls) (go (rules.next m l))) [
         | too_long x o a e ↦ not_true (sym p.0 ∙ a)
@@ -141,12 +142,12 @@ module _ {E S R : Type 0} (entry : List ℕ → Result (Option E) Fault) (fill :
         | on a b c e ↦
             let q = p.1 c in
             ap (ends rules) e
-            ∙ ap (λ (st : State S). ends rules (on_fault (fault_of st) (k + 1) st (text_of ls) (go st))) (good-on (entry l) es q.0)
+            ∙ ap (λ (st : Result S Fault). ends rules (on_fault (result_err st) (k + 1) st (text_of ls) (go st))) (good-on (entry l) es q.0)
             ∙ forward most broken (k + 1) (s + length l) (put (entry l) es) ls q.1 (omega (arith, through-on broken l ls c)) (λ r. sym (off_on broken l ls c) ∙ w r)
             ∙ after_on k es broken l ls c
       ]
 
-  fault-ok : (o : Option Fault) (line : ℕ) (m : State S) (left : List ℕ) (go : Outcome (State S)) (c : R) → ends rules (on_fault o line m left go) ≡ Ok c → (o ≡ None) × (ends rules go ≡ Ok c)
+  fault-ok : (o : Option Fault) (line : ℕ) (m : Result S Fault) (left : List ℕ) (go : Outcome (Result S Fault)) (c : R) → ends rules (on_fault o line m left go) ≡ Ok c → (o ≡ None) × (ends rules go ≡ Ok c)
   fault-ok None line m left go c e = (refl, e)
   fault-ok (Some f) line m left go c e = no _ c e
 
@@ -158,20 +159,20 @@ module _ {E S R : Type 0} (entry : List ℕ → Result (Option E) Fault) (fill :
   unfolding sound
   sound-off broken l ls a b = rw (a, b)
 
-  over_ok : (k : ℕ) (es : List E) (broken : Bool) (c : R) → ends rules (ending on_break broken k, filling (fill es fresh), []) ≡ Ok c → on_break ≡ Refuses → broken ≡ false
+  over_ok : (k : ℕ) (es : List E) (broken : Bool) (c : R) → ends rules (ending on_break broken k, Ok (fill es fresh), []) ≡ Ok c → on_break ≡ Refuses → broken ≡ false
   over_ok k es false c e q = refl
-  over_ok k es true c e q = absurd (off_ok rules on_break k (filling (fill es fresh)) [] c refl e q)
+  over_ok k es true c e q = absurd (off_ok rules on_break k (Ok (fill es fresh)) [] c refl e q)
 
   abbrev Read : ℕ → Bool → ℕ → List (List ℕ) → Type 0
   Read most broken s ls = (sound entry broken ls ≡ true) × (s + length (text_of (through broken ls)) ≤ most) × (on_break ≡ Refuses → breaks_off broken ls ≡ false)
 
   backward : (most : ℕ) (broken : Bool) (k s : ℕ) (es : List E) (ls : List (List ℕ)) (c : R) → s ≤ most →
-      ends rules (walk 4096 most rules broken k s (filling (fill es fresh)) ls) ≡ Ok c → Read most broken s ls
+      ends rules (walk 4096 most rules broken k s (Ok (fill es fresh)) ls) ≡ Ok c → Read most broken s ls
   unfolding walk sound breaks_off through
   backward most broken k s es [] c h e = (refl, omega (arith, text_over), over_ok k es broken c e)
   backward most broken k s es (l ∷ ls) c h x =
-      let m = filling (fill es fresh) in
-      let go : State S → Outcome (State S) = λ st. walk 4096 most rules broken (k + 1) (s + length l) st ls in
+      let m = Ok (fill es fresh) in
+      let go : Result S Fault → Outcome (Result S Fault) = λ st. walk 4096 most rules broken (k + 1) (s + length l) st ls in
       elim (brought 4096 most rules broken k s m l (text_of ls) (go (rules.next m l))) [
         | too_long f o a e ↦ no _ c (sym (ap (ends rules) e) ∙ x)
         | too_much f a e ↦ no _ c (sym (ap (ends rules) e) ∙ x)
@@ -183,19 +184,19 @@ module _ {E S R : Type 0} (entry : List ℕ → Result (Option E) Fault) (fill :
         | on a b d e ↦
             let y = fault-ok (rules.refused (rules.next m l)) (k + 1) (rules.next m l) (text_of ls) (go (rules.next m l)) c (sym (ap (ends rules) e) ∙ x) in
             let g = on_good (entry l) (fill es fresh) y.0 in
-            let i = backward most broken (k + 1) (s + length l) (put (entry l) es) ls c b (sym (ap (λ (st : State S). ends rules (go st)) (good-on (entry l) es g)) ∙ y.1) in
+            let i = backward most broken (k + 1) (s + length l) (put (entry l) es) ls c b (sym (ap (λ (st : Result S Fault). ends rules (go st)) (good-on (entry l) es g)) ∙ y.1) in
             (sound-on broken l ls a g i.0, omega (arith, through-on broken l ls d, i.1), λ q. off_on broken l ls d ∙ i.2 q)
       ]
 
   pub orderly-answered : (broken : Bool) (text : List ℕ) → Orderly entry on_break broken (lines_of text) →
-      (reading rules broken (filling (fill [] fresh)) text).0 ≡ last_lines entry fill judges fresh broken (lines_of text)
+      (reading rules broken (Ok (fill [] fresh)) text).0 ≡ last_lines entry fill judges fresh broken (lines_of text)
   unfolding reading course
   orderly-answered broken text o =
       let z : 0 + length (before broken (lines_of text)) ≡ length (before broken (lines_of text)) = omega arith in
       forward 268435456 broken 0 0 [] (lines_of text) o.lines (omega (arith, o.fits)) o.whole
       ∙ ap (λ (n : ℕ). at_line n (judges (fill (entries_of entry [] (before broken (lines_of text))) fresh))) z
 
-  pub accepted_orderly : (broken : Bool) (text : List ℕ) (c : R) → (reading rules broken (filling (fill [] fresh)) text).0 ≡ Ok c → Orderly entry on_break broken (lines_of text)
+  pub accepted_orderly : (broken : Bool) (text : List ℕ) (c : R) → (reading rules broken (Ok (fill [] fresh)) text).0 ≡ Ok c → Orderly entry on_break broken (lines_of text)
   unfolding reading course
   accepted_orderly broken text c e =
       let i = backward 268435456 broken 0 0 [] (lines_of text) c (omega arith) e in

@@ -8,7 +8,7 @@ use Rattle.sources.specs.Lines.{reading}
 use Rattle.sources.specs.Rules.{Rules}
 use Rattle.sources.proofs.Newer.{newer}
 use Rattle.fields.specs.Slots.{after_entry}
-use Rattle.fields.specs.Slotted.{State, filling, slot_rules, has_begun, foreign_aside, begins_with_any}
+use Rattle.fields.specs.Slotted.{slot_rules, has_begun, foreign_aside, begins_with_any}
 use Rattle.fields.specs.LastLines.{told, recorded, into, ToldByLastLines, SameRecordInEditions}
 use Rattle.fields.proofs.Courses.{orderly-answered, accepted_orderly}
 
@@ -28,14 +28,14 @@ module _ {E S R : Type 0} (entry : List ℕ → Result (Option E) Fault) (fill :
   abbrev after : S → List ℕ → Result S Fault
   after s l = after_entry fill s (entry l)
 
-  abbrev rules : Rules (State S) R
+  abbrev rules : Rules (Result S Fault) R
   rules = slot_rules after judges on_break
 
   abbrev result : Bool → List ℕ → Result R Refusal
-  result broken text = (reading rules broken (filling fresh) text).0
+  result broken text = (reading rules broken (Ok fresh) text).0
 
-  from_none : (broken : Bool) (text : List ℕ) → (reading rules broken (filling (fill [] fresh)) text).0 ≡ result broken text
-  from_none broken text = ap (λ (s : S). (reading rules broken (filling s) text).0) none
+  from_none : (broken : Bool) (text : List ℕ) → (reading rules broken (Ok (fill [] fresh)) text).0 ≡ result broken text
+  from_none broken text = ap (λ (s : S). (reading rules broken (Ok s) text).0) none
 
   pub by_last_lines : (broken : Bool) (text : List ℕ) → ToldByLastLines entry fill judges fresh blank on_break broken text (told (result broken text)) (recorded blank (result broken text))
   by_last_lines broken text = (
@@ -43,9 +43,9 @@ module _ {E S R : Type 0} (entry : List ℕ → Result (Option E) Fault) (fill :
     λ h. told-ok (result broken text) h (λ v e. accepted_orderly entry fill judges fresh on_break more broken text v (from_none broken text ∙ e)),
   )
 
-  pub same-editions : (broken : Bool) (text : List ℕ) → SameRecordInEditions rules has_begun foreign (filling fresh) blank broken text (told (result broken text)) (recorded blank (result broken text))
+  pub same-editions : (broken : Bool) (text : List ℕ) → SameRecordInEditions rules has_begun foreign (Ok fresh) blank broken text (told (result broken text)) (recorded blank (result broken text))
   same-editions broken text text' d h =
-      same-told blank (result broken text) (result broken text') (newer rules has_begun foreign (foreign_aside after judges on_break foreign keeps) (begins_with_any after judges on_break) broken (filling fresh) text text' refl d h)
+      same-told blank (result broken text) (result broken text') (newer rules has_begun foreign (foreign_aside after judges on_break foreign keeps) (begins_with_any after judges on_break) broken (Ok fresh) text text' refl d h)
 
 -- What holds of a reading's answer, record and rest holds of a call's that are those.
 pub given : {R : Type 0} (blank : R) (P : Result (Unit {0}) Refusal × R × List ℕ → Type 0) {o : Result R Refusal × List ℕ} {x : Result R Refusal} {left : List ℕ} {r : Result (Unit {0}) Refusal} {b v : R} →

@@ -1,7 +1,6 @@
-mod Cells
-mod Between
 mod Fills
 pub mod Told
 pub mod Puts
 pub mod Courses
 pub mod Into
+mod Pieces

@@ -1,7 +1,6 @@
 pub mod Counted
 pub mod Lists
 pub mod Items
-pub mod Parts
 pub mod Slots
 pub mod Values
 pub mod Slotted

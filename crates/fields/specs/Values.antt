@@ -1,14 +1,16 @@
 -- How the value of a field is read.
-use Rattle.std.specs.Prelude.{ℕ, Bool, List, ℤ, pos, Some, None, Ok, Err, codes, Option, Result}
-use Rattle.std.specs.Option.{unwrap_or}
+use Rattle.std.specs.Prelude.{ℕ, Bool, List, ℤ, pos, Some, None, Ok, Err, codes, Option, Result, ◌==◌}
+use Rattle.std.specs.List.{slice_split}
+use Rattle.std.specs.Option.{ok_or, unwrap_or}
 use Rattle.std.specs.Str.{bytes_eq}
 use Rattle.sources.specs.declared.fault.Fault.{Fault}
+use Rattle.sources.specs.declared.fault.NumberFault.{NumberFault}
 use Rattle.sources.specs.declared.number.Radix.{Radix}
 use Rattle.sources.specs.declared.number.Radix.TheVariants.{Decimal, Hexadecimal}
 use Rattle.sources.specs.declared.reason.Reason.TheVariants.{Short}
 use Rattle.sources.specs.Faults.{fault, as_fault, and_then}
 use Rattle.sources.specs.Number.{signed, unsigned}
-use Rattle.sources.specs.Pieces.{case_of, cut_at, up_to, shorn}
+use Rattle.sources.specs.Pieces.{cut_at, up_to, shorn}
 use Rattle.sources.specs.White.{nth, white_words}
 use Rattle.fields.specs.declared.counted.Counted.{Counted}
 use Rattle.fields.specs.declared.list.ListFault.{ListFault}
@@ -16,7 +18,6 @@ use Rattle.fields.specs.declared.list.ListFault.TheVariants as list
 use Rattle.fields.specs.declared.value.Four.{Four}
 use Rattle.fields.specs.Items.{range_of}
 use Rattle.fields.specs.Lists.{filled, as_list, list_fault_for}
-use Rattle.fields.specs.Parts.{between}
 
 -- A number of so many bits, and one of 32 bits with its sign.
 abbrev pub figure_of : ℕ → Radix → List ℕ → Result ℕ Fault
@@ -39,13 +40,17 @@ abbrev pub four_of : List ℕ → Result Four Fault
 four_of bs =
     let ws = white_words bs in Ok (record { real = word_of (nth 0 ws); effective = word_of (nth 1 ws); saved = word_of (nth 2 ws); filesystem = word_of (nth 3 ws) })
 
--- Two numbers with a slash between them; what stands behind a second slash is ignored.
-abbrev pub pair_of : List ℕ → Result (ℕ × ℕ) Fault
-pair_of bs =
-    and_then (figure_of 64 Decimal (up_to 47 bs)) (λ a.
-    case_of (cut_at 47 bs) (Err (fault Short)) (λ p.
-    and_then (figure_of 64 Decimal (up_to 47 p.1)) (λ b.
+-- Two numbers with the character `at` between them; what stands behind a second one is ignored.
+abbrev pub two_of : {X : Type 0} → (List ℕ → Result X NumberFault) → ℕ → List ℕ → Result (X × X) Fault
+two_of {X} R at bs =
+    and_then (as_fault (R (up_to at bs))) (λ a.
+    and_then (ok_or (cut_at at bs) (fault Short)) (λ p.
+    and_then (as_fault (R (up_to at p.1))) (λ b.
     Ok (a, b))))
+
+-- Two numbers with a slash between them.
+abbrev pub pair_of : List ℕ → Result (ℕ × ℕ) Fault
+pair_of bs = two_of (unsigned 64 Decimal) 47 bs
 
 -- At most 128 groups, between white space.
 abbrev pub groups_of : List ℕ → Result (Counted ℕ 128) Fault
@@ -55,9 +60,13 @@ groups_of bs = as_list (filled (unsigned 32 Decimal) 0 128 (white_words bs))
 abbrev pub spaces_of : List ℕ → Result (Counted ℤ 32) Fault
 spaces_of bs = as_list (filled (signed 31 Decimal) (pos 0) 32 (white_words bs))
 
+-- The parts between commas: one more than there are commas, so an empty text is one empty part.
+abbrev pub comma_parts : List ℕ → List (List ℕ)
+comma_parts bs = slice_split (λ b. b == 44) bs
+
 -- At most 256 words of a mask, between commas.
 abbrev pub mask_of : List ℕ → Result (Counted ℕ 256) Fault
-mask_of bs = as_list (filled (unsigned 32 Hexadecimal) 0 256 (between 44 bs))
+mask_of bs = as_list (filled (unsigned 32 Hexadecimal) 0 256 (comma_parts bs))
 
 -- A bad item makes the list count as missing.
 abbrev pub or_missing : {X : Type 0} → Result X ListFault → Result (Option X) Fault
@@ -67,7 +76,7 @@ or_missing {X} (Err list.Full) = Err (list_fault_for list.Full)
 
 -- At most 128 ranges, between commas.
 abbrev pub ranges_of : List ℕ → Result (Option (Counted (ℕ × ℕ) 128)) Fault
-ranges_of bs = or_missing (filled range_of (0, 0) 128 (between 44 bs))
+ranges_of bs = or_missing (filled range_of (0, 0) 128 (comma_parts bs))
 
 -- Whether the value is 1.
 abbrev pub flag_of : List ℕ → Bool

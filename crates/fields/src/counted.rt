@@ -1,7 +1,17 @@
-ghost use Rattle.std.specs.Prelude.{◌≡◌, min, ◌++◌, length, take, drop};
-ghost use Rattle.fields.specs.Counted.{text_of};
+ghost use Rattle.std.specs.Prelude.{◌≡◌, ◌≤◌, [], length, take, if◌then◌else◌, nat_lt};
+ghost use Rattle.fields.specs.Counted.{counted, with_item, text_of};
 
-// A list of at most N items: the first `len` cells count, and the others are blank.
+use crate::list::ListFault;
+
+// The first n items, or all.
+fn front<T>(items: &[T], n: usize) -> &[T]
+    ensures items { result.now ≡ take n items.now }
+    ensures bound { length result.now ≤ n }
+{
+    items.get(..n).unwrap_or(items)
+}
+
+// A list of at most N items: the first `len` cells count, and the others are blank. It is a table and no Vec, since the libraries allocate nothing, and so it is `Copy`.
 #[derive(Clone, Copy)]
 pub struct Counted<T, const N: usize> {
     pub cells: [T; N],
@@ -11,34 +21,48 @@ pub struct Counted<T, const N: usize> {
 // The bytes of a text, which fit where the line that it stands on does.
 pub type Text = Counted<u8, 4096>;
 
-impl<T: Copy, const N: usize> Counted<T, N> {
-    pub fn items(&self) -> &[T]
-        ensures { result.now ≡ take self.now.len self.now.cells }
-    {
-        let all = &self.cells[..];
-        if self.len < all.len() {
-            &all[0..self.len]
-        } else {
-            all
+// The empty list.
+impl<T: Default + Copy, const N: usize> Default for Counted<T, N> {
+    ghost is_default = { λ list. (blank : T) × T.is_default blank × (list ≡ counted N blank []) };
+
+    fn default() -> Counted<T, N> {
+        Counted {
+            cells: [T::default(); N],
+            len: 0,
         }
     }
 }
 
-// Writes as many of the bytes to the front of the cells as these have room for, and answers how many.
-fn fill_front(cells: &mut [u8], bytes: &[u8]) -> usize
-    ensures count { result ≡ min (length bytes.now) (length cells.old) }
-    ensures cells { cells.new ≡ take result bytes.now ++ drop result cells.old }
-{
-    let n = bytes.len().min(cells.len());
-    cells[0..n].copy_from_slice(&bytes[0..n]);
-    n
+impl<T: Copy, const N: usize> Counted<T, N> {
+    pub fn items(&self) -> &[T]
+        ensures { result.now ≡ take self.now.len self.now.cells }
+    {
+        front(&self.cells, self.len)
+    }
+
+    // Puts an item behind those in the list, where there is room.
+    pub(crate) fn push(&mut self, item: T) -> Result<(), ListFault>
+        ensures answer { result ≡ (if nat_lt self.old.len N then Ok tt else Err ListFault.Full) }
+        ensures list { self.new ≡ (if nat_lt self.old.len N then with_item item self.old else self.old) }
+    {
+        if self.len >= N {
+            return Err(ListFault::Full);
+        }
+        self.cells[self.len] = item;
+        self.len += 1;
+        Ok(())
+    }
 }
 
 // The first 4096 bytes of a text, kept.
-pub fn copied(text: &str) -> Counted<u8, 4096>
+pub fn copied(text: &str) -> Text
     ensures { result ≡ text_of text.now }
 {
-    let mut cells = [0u8; 4096];
-    let len = fill_front(&mut cells, text.as_bytes());
-    Counted { cells, len }
+    let kept = front(text.as_bytes(), 4096);
+    let mut cells = [0; 4096];
+    cells[..kept.len()].copy_from_slice(kept);
+    Counted {
+        cells,
+        len: kept.len(),
+    }
 }

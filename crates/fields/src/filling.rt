@@ -1,47 +1,43 @@
-ghost use Rattle.std.specs.Prelude.{◌≡◌, None};
+ghost use Rattle.std.specs.Prelude.{◌≡◌, Ok};
+ghost use Rattle.std.specs.Result.{result_err};
 ghost use Rattle.fields.specs.LastLines.{told, recorded};
-ghost use Rattle.fields.specs.Slotted.{stated, next_state, fault_of, shut};
+ghost use Rattle.sources.specs.Faults.{and_then};
 ghost use Rattle.sources.specs.Rules.{verdict as verdict_of};
 
 use crate::slots::Slots;
 use sources::fault::{Fault, Refusal};
 
-// Slots that lines fill, until one of these is refused.
+// Slots that lines fill, or the fault of a line that was refused.
 #[derive(Drop)]
 pub struct Filling<S> {
-    slots: S,
-    fault: Option<Fault>,
+    state: Result<S, Fault>,
 }
 
-impl<S: Slots> Filling<S> {
+impl<S: Slots + Drop> Filling<S> {
     pub fn new(slots: S) -> Filling<S>
-        ensures slots { result.slots ≡ slots }
-        ensures fault { result.fault ≡ None }
+        ensures { result.state ≡ Ok slots }
     {
-        Filling { slots, fault: None }
+        Filling { state: Ok(slots) }
     }
 
     pub fn take(&mut self, line: &str) -> Result<(), Fault>
-        ensures next { stated self.new.slots self.new.fault ≡ next_state S.Slots.after (stated self.old.slots self.old.fault) line.now }
-        ensures verdict { result ≡ verdict_of (fault_of (stated self.new.slots self.new.fault)) }
+        ensures next { self.new.state ≡ and_then self.old.state (λ s. S.Slots.after s line.now) }
+        ensures verdict { result ≡ verdict_of (result_err self.new.state) }
     {
-        if let Some(f) = self.fault {
-            return Err(f);
+        let taken = match &mut self.state {
+            Ok(slots) => slots.put_line(line),
+            Err(f) => Err(*f),
+        };
+        if let Err(f) = taken {
+            self.state = Err(f);
         }
-        if let Err(f) = self.slots.put_line(line) {
-            self.fault = Some(f);
-            return Err(f);
-        }
-        Ok(())
+        taken
     }
 
     pub fn close(&self) -> Result<S::Record, Fault>
-        ensures { result ≡ shut S.Slots.judged (stated self.now.slots self.now.fault) }
+        ensures { result ≡ and_then self.now.state S.Slots.judged }
     {
-        if let Some(f) = self.fault {
-            return Err(f);
-        }
-        self.slots.judge()
+        self.state.as_ref().map_err(|f| *f)?.judge()
     }
 }
 

@@ -1,85 +1,68 @@
-ghost use Rattle.std.specs.Prelude.{◌≡◌, ℕ, List, pos, Result as ResultOf};
+ghost use Rattle.std.specs.Prelude.{◌≡◌, ℕ, List, Result as ResultOf};
 ghost use Rattle.sources.specs.declared.fault.NumberFault.{NumberFault as FaultOf};
-ghost use Rattle.sources.specs.declared.number.Radix.TheVariants.{Decimal, Hexadecimal};
-ghost use Rattle.sources.specs.Number.{unsigned, signed};
+ghost use Rattle.sources.specs.declared.number.Radix.{Radix as RadixOf};
+ghost use Rattle.sources.specs.declared.number.Radix.TheVariants as radix;
 ghost use Rattle.fields.specs.Items.{range_of};
 
 use sources::fault::NumberFault;
 use sources::number::{FromStrRadix, Radix};
 use sources::pieces::{cut, up_to};
+use std::marker::PhantomData;
 
 // What an item of a list means: a value, or a fault, for each piece of text.
 pub trait Item {
-    type Value: Copy;
-
-    // What stands in a cell that holds no item.
-    ghost blank: { Self.Value };
+    type Value: Copy + Default;
 
     ghost reading: { List ℕ → ResultOf Self.Value FaultOf };
-
-    fn blank() -> Self::Value
-        ensures { result ≡ blank };
 
     fn read(piece: &str) -> Result<Self::Value, NumberFault>
         ensures { result ≡ reading piece.now };
 }
 
-// A group.
-pub struct Group;
+// A base, by a type.
+pub trait Base {
+    ghost RADIX: { RadixOf };
 
-impl Item for Group {
-    type Value = u32;
+    const RADIX: Radix;
+}
 
-    ghost blank = { 0 };
+pub struct Decimal;
 
-    ghost reading = { unsigned 32 Decimal };
+impl Base for Decimal {
+    ghost RADIX = { radix.Decimal };
 
-    fn blank() -> u32 {
-        0
-    }
+    const RADIX: Radix = Radix::Decimal;
+}
 
-    fn read(piece: &str) -> Result<u32, NumberFault> {
-        <u32 as sources::number::FromStrRadix>::from_str_radix(piece, Radix::Decimal)
+pub struct Hexadecimal;
+
+impl Base for Hexadecimal {
+    ghost RADIX = { radix.Hexadecimal };
+
+    const RADIX: Radix = Radix::Hexadecimal;
+}
+
+// A number in a base.
+pub struct Figure<T, B>(PhantomData<(T, B)>);
+
+impl<T: FromStrRadix + Copy + Default, B: Base> Item for Figure<T, B> {
+    type Value = T;
+
+    ghost reading = { T.FromStrRadix.reading B.Base.RADIX };
+
+    fn read(piece: &str) -> Result<T, NumberFault> {
+        T::from_str_radix(piece, B::RADIX)
     }
 }
+
+// A group.
+pub type Group = Figure<u32, Decimal>;
 
 // A process in a name space.
-pub struct Process;
-
-impl Item for Process {
-    type Value = i32;
-
-    ghost blank = { pos 0 };
-
-    ghost reading = { signed 31 Decimal };
-
-    fn blank() -> i32 {
-        0
-    }
-
-    fn read(piece: &str) -> Result<i32, NumberFault> {
-        <i32 as sources::number::FromStrRadix>::from_str_radix(piece, Radix::Decimal)
-    }
-}
+pub type Process = Figure<i32, Decimal>;
 
 // 32 bits of a mask.
-pub struct Word;
-
-impl Item for Word {
-    type Value = u32;
-
-    ghost blank = { 0 };
-
-    ghost reading = { unsigned 32 Hexadecimal };
-
-    fn blank() -> u32 {
-        0
-    }
-
-    fn read(piece: &str) -> Result<u32, NumberFault> {
-        <u32 as sources::number::FromStrRadix>::from_str_radix(piece, Radix::Hexadecimal)
-    }
-}
+pub type Word = Figure<u32, Hexadecimal>;
 
 // A range, from its first number to its last.
 pub struct Range;
@@ -87,34 +70,13 @@ pub struct Range;
 impl Item for Range {
     type Value = (u32, u32);
 
-    ghost blank = { (0, 0) };
-
     ghost reading = { range_of };
 
-    fn blank() -> (u32, u32) {
-        (0, 0)
-    }
-
     fn read(piece: &str) -> Result<(u32, u32), NumberFault> {
-        match cut(piece, '-') {
-            Some((first, rest)) => {
-                let a = <u32 as sources::number::FromStrRadix>::from_str_radix(
-                    first,
-                    Radix::Decimal,
-                )?;
-                let b = <u32 as sources::number::FromStrRadix>::from_str_radix(
-                    up_to(rest, '-'),
-                    Radix::Decimal,
-                )?;
-                Ok((a, b))
-            }
-            None => {
-                let n = <u32 as sources::number::FromStrRadix>::from_str_radix(
-                    piece,
-                    Radix::Decimal,
-                )?;
-                Ok((n, n))
-            }
-        }
+        let (first, last) = cut(piece, '-').unwrap_or((piece, piece));
+        Ok((
+            <u32 as FromStrRadix>::from_str_radix(first, Radix::Decimal)?,
+            <u32 as FromStrRadix>::from_str_radix(up_to(last, '-'), Radix::Decimal)?,
+        ))
     }
 }

@@ -5,7 +5,6 @@ pub mod counted;
 pub mod filling;
 mod item;
 mod list;
-mod parts;
 pub mod slot;
 pub mod slots;
 pub mod value;

@@ -1,9 +1,10 @@
 ghost use Rattle.std.specs.Prelude.{◌≡◌};
+ghost use Rattle.std.specs.Iterator.{IsFinite, AlwaysYields};
+ghost use Rattle.sources.specs.Pieces.{bytes_of};
 ghost use Rattle.fields.specs.Lists.{bad_for, list_fault_for, filled};
 
 use crate::counted::Counted;
 use crate::item::Item;
-use crate::parts::Parts;
 use sources::fault::{Fault, NumberFault};
 use sources::reason::Reason;
 
@@ -33,21 +34,17 @@ impl From<ListFault> for Fault {
     }
 }
 
-// The items that parts of a text mean, at most N.
-pub fn read_list<'a, I: Item, P: Parts<'a> + Drop, const N: usize>(
-    mut parts: P,
+// The items that pieces of a text mean, at most N.
+pub fn read_list<'a, I: Item, P: Iterator<Item = &'a str> + Drop, const N: usize>(
+    pieces: P,
 ) -> Result<Counted<I::Value, N>, ListFault>
-    ensures { result ≡ filled I.Item.reading I.Item.blank N (P.Parts.rest parts) }
+    requires can { P.can_next pieces }
+    requires ends { IsFinite (P.remaining pieces) }
+    ensures { (texts : _) → AlwaysYields P.next_gives bytes_of pieces texts → (blank : I.Value) × I.Value.is_default blank × (result ≡ filled I.Item.reading blank N texts) }
 {
-    let mut cells = [I::blank(); N];
-    let mut len: usize = 0;
-    while let Some(part) = parts.next_part() {
-        let value = I::read(part)?;
-        if len == N {
-            return Err(ListFault::Full);
-        }
-        cells[len] = value;
-        len += 1;
+    let mut list = Counted::default();
+    for piece in pieces {
+        list.push(I::read(piece)?)?;
     }
-    Ok(Counted { cells, len })
+    Ok(list)
 }

@@ -11,48 +11,26 @@ pub type Slot<T> = Option<Result<T, Fault>>;
 pub fn at_field<T>(field: u8, r: Result<T, Fault>) -> Result<T, Fault>
     ensures { result ≡ at_field field r }
 {
-    match r {
-        Ok(v) => Ok(v),
-        Err(f) => Err(Fault {
-            reason: f.reason,
-            field,
-        }),
-    }
+    r.map_err(|f| Fault { field, ..f })
 }
 
 // A field that may not be missing.
 pub fn needed<T>(field: u8, slot: Slot<T>) -> Result<T, Fault>
     ensures { result ≡ needed_of field slot }
 {
-    match slot {
-        None => Err(Fault {
-            reason: Reason::Absent,
-            field,
-        }),
-        Some(r) => at_field(field, r),
-    }
+    at_field(field, slot.ok_or(Fault::new(Reason::Absent)).flatten())
 }
 
 // A field that may be missing.
 pub fn optional<T>(field: u8, slot: Slot<T>) -> Result<Option<T>, Fault>
     ensures { result ≡ optional_of field slot }
 {
-    match slot {
-        None => Ok(None),
-        Some(Ok(v)) => Ok(Some(v)),
-        Some(Err(f)) => Err(Fault {
-            reason: f.reason,
-            field,
-        }),
-    }
+    at_field(field, slot.transpose())
 }
 
 // A field that may be missing, or be there and count as missing.
 pub fn lenient<T>(field: u8, slot: Slot<Option<T>>) -> Result<Option<T>, Fault>
     ensures { result ≡ lenient_of field slot }
 {
-    match slot {
-        None => Ok(None),
-        Some(r) => at_field(field, r),
-    }
+    Ok(optional(field, slot)?.flatten())
 }

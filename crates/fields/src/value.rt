@@ -1,16 +1,14 @@
-ghost use Rattle.std.specs.Prelude.{◌≡◌, codes};
-ghost use Rattle.std.specs.Option.{option_map, unwrap_or};
+ghost use Rattle.std.specs.Prelude.{◌≡◌};
+ghost use Rattle.std.specs.Option.{option_map};
 ghost use Rattle.sources.specs.Faults.{as_fault};
-ghost use Rattle.sources.specs.Pieces.{bytes_of, shorn as shorn_of};
+ghost use Rattle.sources.specs.Pieces.{bytes_of};
 ghost use Rattle.sources.specs.White.{white_words};
-ghost use Rattle.fields.specs.Lists.{filled, as_list};
-ghost use Rattle.fields.specs.Parts.{between};
-ghost use Rattle.fields.specs.Values.{kilobytes_of, word_of, four_of, pair_of, groups_of, spaces_of, mask_of, ranges_of, or_missing, flag_of};
+ghost use Rattle.fields.specs.Lists.{filled};
+ghost use Rattle.fields.specs.Values.{comma_parts, kilobytes_of, word_of, four_of, two_of, pair_of, groups_of, spaces_of, mask_of, ranges_of, flag_of};
 
 use crate::counted::Counted;
-use crate::item::Item;
+use crate::item::{Group, Item, Process, Range, Word};
 use crate::list::{ListFault, read_list};
-use crate::parts::Commas;
 use sources::fault::Fault;
 use sources::number::{FromStrRadix, Radix};
 use sources::pieces::{cut, shorn, up_to};
@@ -21,25 +19,14 @@ use sources::words::Words;
 pub fn figure<T: FromStrRadix>(text: &str, radix: Radix) -> Result<T, Fault>
     ensures { result ≡ as_fault (T.FromStrRadix.reading radix text.now) }
 {
-    let n = T::from_str_radix(text, radix)?;
-    Ok(n)
-}
-
-// The text without the unit at its end.
-fn unscaled(text: &str) -> &str
-    ensures { result.now ≡ unwrap_or (shorn_of (codes " kB") text.now) text.now }
-{
-    match shorn(text, " kB") {
-        Some(front) => front,
-        None => text,
-    }
+    Ok(T::from_str_radix(text, radix)?)
 }
 
 // A figure in kB, kept as it is.
 pub fn kilobytes(text: &str) -> Result<u64, Fault>
     ensures { result ≡ kilobytes_of text.now }
 {
-    figure(unscaled(text), Radix::Decimal)
+    figure(shorn(text, " kB").unwrap_or(text), Radix::Decimal)
 }
 
 // The four numbers of a process's owner, or what is wrong with each.
@@ -55,12 +42,10 @@ pub struct Four {
 fn read_word(word: Option<&str>) -> Result<u32, Fault>
     ensures { result ≡ word_of (option_map bytes_of word.entry) }
 {
-    match word {
-        Some(text) => figure(text, Radix::Decimal),
-        None => Err(Fault::new(Reason::Short)),
-    }
+    figure(word.ok_or(Fault::new(Reason::Short))?, Radix::Decimal)
 }
 
+#[tactic(auto, using(crate::proofs::Told::nth_drop))]
 pub fn read_four(text: &str) -> Result<Four, Fault>
     ensures { result ≡ four_of text.now }
 {
@@ -77,56 +62,65 @@ pub fn read_four(text: &str) -> Result<Four, Fault>
     })
 }
 
+// Two numbers with `at` between them; what stands behind a second `at` is ignored.
+pub fn two_figures<T: FromStrRadix + Drop>(
+    text: &str,
+    at: char,
+    radix: Radix,
+) -> Result<(T, T), Fault>
+    ensures { result ≡ two_of (T.FromStrRadix.reading radix) at text.now }
+{
+    let first = figure(up_to(text, at), radix)?;
+    let (_, rest) = cut(text, at).ok_or(Fault::new(Reason::Short))?;
+    let second = figure(up_to(rest, at), radix)?;
+    Ok((first, second))
+}
+
 // Two numbers with a slash between them.
 pub fn pair(text: &str) -> Result<(u64, u64), Fault>
     ensures { result ≡ pair_of text.now }
 {
-    let a = <u64 as FromStrRadix>::from_str_radix(up_to(text, '/'), Radix::Decimal)?;
-    let (_, rest) = cut(text, '/').ok_or(Fault::new(Reason::Short))?;
-    let b = <u64 as FromStrRadix>::from_str_radix(up_to(rest, '/'), Radix::Decimal)?;
-    Ok((a, b))
+    two_figures(text, '/', Radix::Decimal)
 }
 
-// A list of items between white space.
-fn words_list<I: Item, const N: usize>(text: &str) -> Result<Counted<I::Value, N>, Fault>
-    ensures { result ≡ as_list (filled I.Item.reading I.Item.blank N (white_words text.now)) }
+// A list of the items that the words of a text mean.
+fn words_list<I: Item, const N: usize>(text: &str) -> Result<Counted<I::Value, N>, ListFault>
+    ensures { (blank : I.Value) × I.Value.is_default blank × (result ≡ filled I.Item.reading blank N (white_words text.now)) }
 {
-    let items = read_list::<I, Words<'_>, N>(Words::new(text))?;
-    Ok(items)
+    read_list::<I, _, N>(text.split_whitespace())
 }
 
-// A list of items between commas.
+// A list of the items between commas.
 fn commas_list<I: Item, const N: usize>(text: &str) -> Result<Counted<I::Value, N>, ListFault>
-    ensures { result ≡ filled I.Item.reading I.Item.blank N (between 44 text.now) }
+    ensures { (blank : I.Value) × I.Value.is_default blank × (result ≡ filled I.Item.reading blank N (comma_parts text.now)) }
 {
-    read_list::<I, Commas<'_>, N>(Commas::new(text))
+    read_list::<I, _, N>(text.split(','))
 }
 
 pub fn groups(text: &str) -> Result<Counted<u32, 128>, Fault>
     ensures { result ≡ groups_of text.now }
 {
-    words_list::<crate::item::Group, 128>(text)
+    Ok(words_list::<Group, 128>(text)?)
 }
 
 // A process in each of its name spaces.
 pub fn spaces(text: &str) -> Result<Counted<i32, 32>, Fault>
     ensures { result ≡ spaces_of text.now }
 {
-    words_list::<crate::item::Process, 32>(text)
+    Ok(words_list::<Process, 32>(text)?)
 }
 
 pub fn mask(text: &str) -> Result<Counted<u32, 256>, Fault>
     ensures { result ≡ mask_of text.now }
 {
-    let words = commas_list::<crate::item::Word, 256>(text)?;
-    Ok(words)
+    Ok(commas_list::<Word, 256>(text)?)
 }
 
 // A bad range makes the list count as missing.
 pub fn ranges(text: &str) -> Result<Option<Counted<(u32, u32), 128>>, Fault>
     ensures { result ≡ ranges_of text.now }
 {
-    match commas_list::<crate::item::Range, 128>(text) {
+    match commas_list::<Range, 128>(text) {
         Ok(list) => Ok(Some(list)),
         Err(ListFault::Bad) => Ok(None),
         Err(ListFault::Full) => Err(Fault::new(Reason::Full)),

@@ -1,22 +1,24 @@
 -- The reading of a status text into a record, and what it comes to.
-use Rattle.std.specs.Prelude.{ℕ, Bool, List, Result}
+use Rattle.std.specs.Prelude.{ℕ, Bool, List, Ok, Result}
+use Rattle.sources.specs.declared.fault.Fault.{Fault}
 use Rattle.sources.specs.declared.fault.Refusal.{Refusal}
 use Rattle.sources.specs.declared.kind.Break.TheVariants.{Refuses}
 use Rattle.sources.specs.Lines.{reading}
 use Rattle.sources.specs.Rules.{Rules}
 use Rattle.fields.specs.LastLines.{into, ToldByLastLines, SameRecordInEditions}
-use Rattle.fields.specs.Slotted.{State, filling, slot_rules, has_begun}
+use Rattle.fields.specs.Slotted.{slot_rules, has_begun}
 use Rattle.status.specs.declared.record.StatusSlots.{StatusSlots}
 use Rattle.status.specs.declared.record.Status.{Status}
 use Rattle.status.specs.Line.{entry_of, after_status, is_foreign}
 use Rattle.status.specs.Record.{fill_slots, judged_slots, fresh_slots, blank_status}
 
 -- A break refuses a status text.
-abbrev pub status_rules : Rules (State StatusSlots) Status
+abbrev pub status_rules : Rules (Result StatusSlots Fault) Status
 status_rules = slot_rules after_status judged_slots Refuses
 
-abbrev pub fresh : State StatusSlots
-fresh = filling fresh_slots
+-- Before any line.
+abbrev pub fresh : Result StatusSlots Fault
+fresh = Ok fresh_slots
 
 -- The answer, the record and the bytes left.
 abbrev pub status_of : Bool → List ℕ → Result (Unit {0}) Refusal × Status × List ℕ

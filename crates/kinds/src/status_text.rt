@@ -1,5 +1,6 @@
-ghost use Rattle.std.specs.Prelude.{◌≡◌};
-ghost use Rattle.fields.specs.Slotted.{State as StateOf, stated, has_begun, refusal_stays, foreign_aside, begins_with_any};
+ghost use Rattle.std.specs.Prelude.{◌≡◌, Result as ResultOf};
+ghost use Rattle.fields.specs.Slotted.{has_begun, refusal_stays, foreign_aside, begins_with_any};
+ghost use Rattle.sources.specs.declared.fault.Fault.{Fault as FaultOf};
 ghost use Rattle.status.specs.declared.record.StatusSlots.{StatusSlots as SlotsOf};
 ghost use Rattle.status.specs.Line.{after_status, is_foreign};
 ghost use Rattle.status.specs.LineLaws.{foreign_aside as foreign_keeps};
@@ -22,10 +23,10 @@ pub struct StatusText {
 
 impl StatusText {
     pub fn new() -> StatusText
-        ensures { stated result.filling.slots result.filling.fault ≡ fresh }
+        ensures { result.filling.state ≡ fresh }
     {
         StatusText {
-            filling: Filling::<StatusSlots>::new(StatusSlots::new()),
+            filling: Filling::new(StatusSlots::new()),
         }
     }
 }
@@ -35,9 +36,9 @@ impl Kind for StatusText {
 
     const BREAK: Break = Break::Refuses;
 
-    ghost Meaning = { StateOf SlotsOf };
+    ghost Meaning = { ResultOf SlotsOf FaultOf };
 
-    ghost means = { λ t. stated t.filling.slots t.filling.fault };
+    ghost means = { λ t. t.filling.state };
 
     ghost rules = { status_rules };
 

@@ -1,8 +1,10 @@
-use Rattle.std.proofs.Common.{ap, ◌∙◌}
+use Rattle.std.proofs.Common.{◌≡◌, take, rules}
+use Rattle.std.proofs.lemmas.List.{drop-replicate}
 use Rattle.fields.specs.Counted.{text_of}
-use Rattle.fields.proofs.Cells.{written}
 use Rattle.fields.proofs.counted.copied.Goals as goal
 
 pub returns : goal.returns
 unfolding text_of
-returns c = written 4096 0 _ _ _ c.fill_front-len.ensures.count c.fill_front-len.ensures.cells ∙ ap text_of c.as_bytes.ensures.value
+returns c =
+    let k : c.front-kept.result.now ≡ take 4096 c.args.text.now = search rules in
+    rw (c.copy_from_slice.ensures.after, k, drop-replicate)

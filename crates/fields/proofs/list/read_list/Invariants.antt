@@ -1,13 +1,11 @@
-use Rattle.std.proofs.Common.{◌≡◌, ◌≤◌, length}
-use Rattle.fields.specs.Lists.{filled}
-use Rattle.fields.proofs.Fills.{filling}
+use Rattle.std.proofs.Common.{ℕ, List}
+use Rattle.std.specs.Iterator.{AlwaysYields}
+use Rattle.sources.specs.Pieces.{bytes_of}
+use Rattle.fields.proofs.Fills.{Had}
 use Rattle.fields.proofs.list.read_list.Given as goal
 
 -- What is left is answered as the whole was to be.
-abbrev pub invariant-loop-part : goal.invariant-loop-part
-invariant-loop-part g l =
-    (length l.cells ≡ g.row.N) × (l.len ≤ g.row.N)
-    × (filled g.I.Item.reading g.I.Item.blank g.row.N (g.P.Parts.rest l.initial.parts) ≡ filling g.I.Item.reading g.row.N l.cells l.len (g.P.Parts.rest l.parts))
-
-abbrev pub decreases-loop-part : goal.decreases-loop-part
-decreases-loop-part g l = length (g.P.Parts.rest l.parts)
+abbrev pub invariant-loop-piece : goal.invariant-loop-piece
+invariant-loop-piece g l =
+    (goal.iterator-loop-piece g).can_next l.piece-iterator × (goal.iterator-loop-piece g).is_finite l.piece-iterator
+    × ((texts : List (List ℕ)) → AlwaysYields g.P.Iterator.next_gives bytes_of l.fn.pieces texts → Had g.P.Iterator.next_gives g.I.Value.Default.is_default g.I.Item.reading g.row.N texts l.piece-iterator l.list)

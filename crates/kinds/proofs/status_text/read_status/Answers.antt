@@ -1,7 +1,7 @@
-use Rattle.std.proofs.Common.{ap, ◌∙◌}
+use Rattle.std.proofs.Common.{Result, ap, ◌∙◌}
 use Rattle.sources.specs.Lines.{reading}
 use Rattle.fields.proofs.Into.{given}
-use Rattle.fields.specs.Slotted.{State}
+use Rattle.sources.specs.declared.fault.Fault.{Fault}
 use Rattle.status.specs.declared.record.StatusSlots.{StatusSlots}
 use Rattle.status.specs.Record.{blank_status}
 use Rattle.kinds.specs.StatusText.{status_rules}
@@ -12,6 +12,6 @@ pub returns : goal.returns
 returns g c =
     let broken = g.S.Source.broken c.args.source.now in
     let text = g.S.Source.rest c.args.source.now in
-    let e = c.fill.ensures.reading ∙ ap (λ (m : State StatusSlots). reading status_rules broken m text) c.new-text.ensures in
+    let e = c.fill.ensures.reading ∙ ap (λ (m : Result StatusSlots Fault). reading status_rules broken m text) c.new-text.ensures in
     let h = given blank_status (Shown broken text) (shown broken text) e c.blank.ensures c.put_record.ensures.answer c.put_record.ensures.holds in
     record { defined = h.defined; keeps = c.fill.ensures.keeps; lines = h.lines; editions = h.editions }
