@@ -6,7 +6,8 @@ use Rattle.sources.specs.declared.fault.Refusal.{Refusal}
 use Rattle.sources.specs.declared.kind.Break.{Break}
 use Rattle.sources.specs.declared.kind.Break.TheVariants.{Refuses, Ends}
 use Rattle.sources.specs.Faults.{at_line}
-use Rattle.sources.specs.Lines.{lines_of, text_of, long, lost, judged, walk, Outcome, broke, on_fault, ending, course, reading}
+use Rattle.sources.specs.Lines.{lines_of, text_of, long, lost, judged, walk, Outcome, broke, on_fault, ending, course, leaves, reading}
+use Rattle.sources.specs.Texts.{Text}
 use Rattle.sources.specs.Rules.{Rules}
 use Rattle.sources.specs.Utf8.{is_utf8}
 use Rattle.sources.proofs.Steps.{judged-long, judged-past, judged-cut, judged-text, judged-kind}
@@ -188,16 +189,16 @@ module _ {E S R : Type 0} (entry : List ℕ → Result (Option E) Fault) (fill :
             (sound-on broken l ls a g i.0, omega (arith, through-on broken l ls d, i.1), λ q. off_on broken l ls d ∙ i.2 q)
       ]
 
-  pub orderly-answered : (broken : Bool) (text : List ℕ) → Orderly entry on_break broken (lines_of text) →
-      (reading rules broken (Ok (fill [] fresh)) text).0 ≡ last_lines entry fill judges fresh broken (lines_of text)
-  unfolding reading course
-  orderly-answered broken text o =
-      let z : 0 + length (before broken (lines_of text)) ≡ length (before broken (lines_of text)) = omega arith in
-      forward 268435456 broken 0 0 [] (lines_of text) o.lines (omega (arith, o.fits)) o.whole
-      ∙ ap (λ (n : ℕ). at_line n (judges (fill (entries_of entry [] (before broken (lines_of text))) fresh))) z
+  pub orderly-answered : (t : Text) → Orderly entry on_break t.broken (lines_of t.bytes) →
+      (reading rules (Ok (fill [] fresh)) t).0 ≡ last_lines entry fill judges fresh t.broken (lines_of t.bytes)
+  unfolding reading course leaves
+  orderly-answered t o =
+      let z : 0 + length (before t.broken (lines_of t.bytes)) ≡ length (before t.broken (lines_of t.bytes)) = omega arith in
+      forward 268435456 t.broken 0 0 [] (lines_of t.bytes) o.lines (omega (arith, o.fits)) o.whole
+      ∙ ap (λ (n : ℕ). at_line n (judges (fill (entries_of entry [] (before t.broken (lines_of t.bytes))) fresh))) z
 
-  pub accepted_orderly : (broken : Bool) (text : List ℕ) (c : R) → (reading rules broken (Ok (fill [] fresh)) text).0 ≡ Ok c → Orderly entry on_break broken (lines_of text)
-  unfolding reading course
-  accepted_orderly broken text c e =
-      let i = backward 268435456 broken 0 0 [] (lines_of text) c (omega arith) e in
+  pub accepted_orderly : (t : Text) (c : R) → (reading rules (Ok (fill [] fresh)) t).0 ≡ Ok c → Orderly entry on_break t.broken (lines_of t.bytes)
+  unfolding reading course leaves
+  accepted_orderly t c e =
+      let i = backward 268435456 t.broken 0 0 [] (lines_of t.bytes) c (omega arith) e in
       record { lines = i.0; fits = omega (arith, i.1); whole = i.2 }

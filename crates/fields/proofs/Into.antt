@@ -5,6 +5,7 @@ use Rattle.sources.specs.declared.fault.Refusal.{Refusal}
 use Rattle.sources.specs.declared.kind.Break.{Break}
 use Rattle.sources.specs.Editions.{Same}
 use Rattle.sources.specs.Lines.{reading}
+use Rattle.sources.specs.Texts.{Text, text}
 use Rattle.sources.specs.Rules.{Rules}
 use Rattle.sources.proofs.Newer.{newer}
 use Rattle.fields.specs.Slots.{after_entry}
@@ -31,24 +32,24 @@ module _ {E S R : Type 0} (entry : List ℕ → Result (Option E) Fault) (fill :
   abbrev rules : Rules (Result S Fault) R
   rules = slot_rules after judges on_break
 
-  abbrev result : Bool → List ℕ → Result R Refusal
-  result broken text = (reading rules broken (Ok fresh) text).0
+  abbrev result : Text → Result R Refusal
+  result t = (reading rules (Ok fresh) t).0
 
-  from_none : (broken : Bool) (text : List ℕ) → (reading rules broken (Ok (fill [] fresh)) text).0 ≡ result broken text
-  from_none broken text = ap (λ (s : S). (reading rules broken (Ok s) text).0) none
+  from_none : (t : Text) → (reading rules (Ok (fill [] fresh)) t).0 ≡ result t
+  from_none t = ap (λ (s : S). (reading rules (Ok s) t).0) none
 
-  pub by_last_lines : (broken : Bool) (text : List ℕ) → ToldByLastLines entry fill judges fresh blank on_break broken text (told (result broken text)) (recorded blank (result broken text))
-  by_last_lines broken text = (
-    λ o. let e = sym (from_none broken text) ∙ orderly-answered entry fill judges fresh on_break more broken text o in record { answer = ap told e; holds = ap (recorded blank) e },
-    λ h. told-ok (result broken text) h (λ v e. accepted_orderly entry fill judges fresh on_break more broken text v (from_none broken text ∙ e)),
+  pub by_last_lines : (t : Text) → ToldByLastLines entry fill judges fresh blank on_break t (told (result t)) (recorded blank (result t))
+  by_last_lines t = (
+    λ o. let e = sym (from_none t) ∙ orderly-answered entry fill judges fresh on_break more t o in record { answer = ap told e; holds = ap (recorded blank) e },
+    λ h. told-ok (result t) h (λ v e. accepted_orderly entry fill judges fresh on_break more t v (from_none t ∙ e)),
   )
 
-  pub same-editions : (broken : Bool) (text : List ℕ) → SameRecordInEditions rules has_begun foreign (Ok fresh) blank broken text (told (result broken text)) (recorded blank (result broken text))
-  same-editions broken text text' d h =
-      same-told blank (result broken text) (result broken text') (newer rules has_begun foreign (foreign_aside after judges on_break foreign keeps) (begins_with_any after judges on_break) broken (Ok fresh) text text' refl d h)
+  pub same-editions : (t : Text) → SameRecordInEditions rules has_begun foreign (Ok fresh) blank t (told (result t)) (recorded blank (result t))
+  same-editions t bytes' d h =
+      same-told blank (result t) (result (text bytes' t.broken)) (newer rules has_begun foreign (foreign_aside after judges on_break foreign keeps) (begins_with_any after judges on_break) (Ok fresh) t bytes' refl d h)
 
 -- What holds of a reading's answer, record and rest holds of a call's that are those.
-pub given : {R : Type 0} (blank : R) (P : Result (Unit {0}) Refusal × R × List ℕ → Type 0) {o : Result R Refusal × List ℕ} {x : Result R Refusal} {left : List ℕ} {r : Result (Unit {0}) Refusal} {b v : R} →
+pub given : {R : Type 0} (blank : R) (P : Result (Unit {0}) Refusal × R × Text → Type 0) {o : Result R Refusal × Text} {x : Result R Refusal} {left : Text} {r : Result (Unit {0}) Refusal} {b v : R} →
     P (into blank o) → (x, left) ≡ o → b ≡ blank → r ≡ told x → v ≡ recorded b x → P (r, v, left)
 given {R} blank P {o} {x} {left} {r} {b} {v} h e f g k =
     let q : (r, v, left) ≡ into blank o = rw (g, k, f) (ap (into blank) e) in subst P (sym q) h

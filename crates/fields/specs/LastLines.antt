@@ -8,6 +8,7 @@ use Rattle.sources.specs.Faults.{at_line}
 use Rattle.sources.specs.Editions.{Edition, Same}
 use Rattle.sources.specs.Lines.{lines_of, text_of, long, lost, reading, max_line, max_text}
 use Rattle.sources.specs.Rules.{Rules}
+use Rattle.sources.specs.Texts.{Text, text}
 use Rattle.sources.specs.Utf8.{is_utf8}
 
 -- Whether a line breaks its text off: a broken ending cuts it short, or it is not UTF-8.
@@ -68,8 +69,8 @@ abbrev pub recorded : {R : Type 0} → R → Result R Refusal → R
 recorded {R} blank (Ok v) = v
 recorded {R} blank (Err f) = blank
 
--- The answer, the caller's record and the bytes left, of a reading.
-abbrev pub into : {R : Type 0} → R → Result R Refusal × List ℕ → Result (Unit {0}) Refusal × R × List ℕ
+-- The answer, the caller's record and the text left, of a reading.
+abbrev pub into : {R : Type 0} → R → Result R Refusal × Text → Result (Unit {0}) Refusal × R × Text
 into {R} blank o = (told o.0, recorded blank o.0, o.1)
 
 -- An answer and a record are those of a reading's result.
@@ -78,13 +79,13 @@ pub record Gives {R : Type 0} (blank : R) (x : Result R Refusal) (r : Result (Un
   pub holds : v ≡ recorded blank x
 
 -- An orderly text is answered by its last lines alone, and only an orderly text is accepted.
-abbrev pub ToldByLastLines : {E S R : Type 0} → (List ℕ → Result (Option E) Fault) → (List E → S → S) → (S → Result R Fault) → S → R → Break → Bool → List ℕ → Result (Unit {0}) Refusal → R → Type 0
-ToldByLastLines {E} {S} {R} entry fill judged fresh blank on_break broken text r v =
-    (Orderly entry on_break broken (lines_of text) → Gives blank (last_lines entry fill judged fresh broken (lines_of text)) r v)
-    × (r ≡ Ok tt → Orderly entry on_break broken (lines_of text))
+abbrev pub ToldByLastLines : {E S R : Type 0} → (List ℕ → Result (Option E) Fault) → (List E → S → S) → (S → Result R Fault) → S → R → Break → Text → Result (Unit {0}) Refusal → R → Type 0
+ToldByLastLines {E} {S} {R} entry fill judged fresh blank on_break t r v =
+    (Orderly entry on_break t.broken (lines_of t.bytes) → Gives blank (last_lines entry fill judged fresh t.broken (lines_of t.bytes)) r v)
+    × (r ≡ Ok tt → Orderly entry on_break t.broken (lines_of t.bytes))
 
 -- A newer edition of the text, within the cap, gets the same answer, line numbers aside, and leaves the same record.
-abbrev pub SameRecordInEditions : {M R : Type 0} → Rules M R → (M → Bool) → (List ℕ → Bool) → M → R → Bool → List ℕ → Result (Unit {0}) Refusal → R → Type 0
-SameRecordInEditions {M} {R} rules begun foreign m blank broken text r v =
-    (text' : List ℕ) → Edition foreign (begun m) (lines_of text) (lines_of text') → length text' ≤ max_text →
-    Same r (told (reading rules broken m text').0) × (v ≡ recorded blank (reading rules broken m text').0)
+abbrev pub SameRecordInEditions : {M R : Type 0} → Rules M R → (M → Bool) → (List ℕ → Bool) → M → R → Text → Result (Unit {0}) Refusal → R → Type 0
+SameRecordInEditions {M} {R} rules begun foreign m blank t r v =
+    (bytes' : List ℕ) → Edition foreign (begun m) (lines_of t.bytes) (lines_of bytes') → length bytes' ≤ max_text →
+    Same r (told (reading rules m (text bytes' t.broken)).0) × (v ≡ recorded blank (reading rules m (text bytes' t.broken)).0)
