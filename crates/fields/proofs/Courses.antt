@@ -1,5 +1,5 @@
 -- The course over the lines of a text, by a kind that fills slots, comes to what its last lines make.
-use Rattle.std.proofs.Common.{◌≡◌, ℕ, ◌+◌, ◌<◌, ◌≤◌, Bool, true, false, cond, not, ltb, List, [], ◌∷◌, length, Some, None, Ok, Err, Option, Result, sym, refl, ap, ◌∙◌, inl, inr, arith, length-append}
+use Rattle.std.proofs.Common.{◌≡◌, ℕ, ◌+◌, ◌<◌, ◌≤◌, Bool, true, false, cond, ltb, List, [], ◌∷◌, length, Some, None, Ok, Err, Option, Result, sym, refl, ap, ◌∙◌, inl, inr, arith, length-append}
 use Rattle.std.proofs.lemmas.Bool.{cases_Bool, ltb-true, ltb-false}
 use Rattle.sources.specs.declared.fault.Fault.{Fault}
 use Rattle.sources.specs.declared.fault.Refusal.{Refusal}
@@ -11,17 +11,11 @@ use Rattle.sources.specs.Texts.{Text}
 use Rattle.sources.specs.Rules.{Rules}
 use Rattle.sources.specs.Utf8.{is_utf8}
 use Rattle.sources.proofs.Steps.{judged-long, judged-past, judged-cut, judged-text, judged-kind}
-use Rattle.sources.proofs.Walks.{ends, no}
+use Rattle.sources.proofs.Walks.{ends}
 use Rattle.fields.specs.Slots.{entered, after_entry}
 use Rattle.std.specs.Result.{result_err}
 use Rattle.fields.specs.Slotted.{slot_rules}
 use Rattle.fields.specs.LastLines.{breaks, before, through, breaks_off, good, sound, Orderly, put, entries_of, last_lines}
-
-not_true : {A : Type 0} → ◌≡◌ {A = Bool} false true → A
-not_true {A} e = let z : ◌≡◌ {A = ℕ} 0 1 = cc in absurd (omega arith)
-
-not_false : {A : Type 0} → ◌≡◌ {A = Bool} true false → A
-not_false {A} e = let z : ◌≡◌ {A = ℕ} 0 1 = cc in absurd (omega arith)
 
 text_cons : (l : List ℕ) (ls : List (List ℕ)) → length (text_of (l ∷ ls)) ≡ length l + length (text_of ls)
 unfolding text_of
@@ -45,10 +39,10 @@ brought {M} {C} room most R broken k s m l left go =
       | inr a ↦ elim (cases_Bool (ltb most (s + length l))) [
         | inl p ↦ too_much _ (ltb-true most (s + length l) p) (judged-past room most R broken k s m l left go a p)
         | inr p ↦ elim (cases_Bool (lost broken l)) [
-          | inl t ↦ off a (ltb-false most (s + length l) p) (ap (λ (x : Bool). cond x true (not (is_utf8 l))) t) (judged-cut room most R broken k s m l left go a p t)
+          | inl t ↦ off a (ltb-false most (s + length l) p) (rw t) (judged-cut room most R broken k s m l left go a p t)
           | inr t ↦ elim (cases_Bool (is_utf8 l)) [
-            | inl u ↦ on a (ltb-false most (s + length l) p) (ap (λ (x : Bool). cond x true (not (is_utf8 l))) t ∙ ap not u) (judged-kind room most R broken k s m l left go a p t u)
-            | inr u ↦ off a (ltb-false most (s + length l) p) (ap (λ (x : Bool). cond x true (not (is_utf8 l))) t ∙ ap not u) (judged-text room most R broken k s m l left go a p t u)
+            | inl u ↦ on a (ltb-false most (s + length l) p) (rw (t, u)) (judged-kind room most R broken k s m l left go a p t u)
+            | inr u ↦ off a (ltb-false most (s + length l) p) (rw (t, u)) (judged-text room most R broken k s m l left go a p t u)
           ]
         ]
       ]
@@ -57,12 +51,12 @@ brought {M} {C} room most R broken k s m l left go =
 -- a break where it ends the text
 off_ends : {M C : Type 0} (R : Rules M C) (b : Break) (k : ℕ) (m : M) (left : List ℕ) → R.on_break ≡ b → (b ≡ Refuses → ⊥) → ends R (broke R.on_break k, m, left) ≡ at_line k (R.closed m)
 off_ends {M} {C} R Refuses k m left e h = absurd (h refl)
-off_ends {M} {C} R Ends k m left e h = ap (λ (x : Break). ends R (broke x k, m, left)) e
+off_ends {M} {C} R Ends k m left e h = rw e
 
 -- a break that is accepted does not refuse
 off_ok : {M C : Type 0} (R : Rules M C) (b : Break) (k : ℕ) (m : M) (left : List ℕ) (c : C) → R.on_break ≡ b → ends R (broke R.on_break k, m, left) ≡ Ok c → b ≡ Refuses → ⊥
-off_ok {M} {C} R Refuses k m left c e h q = no _ c (sym (ap (λ (x : Break). ends R (broke x k, m, left)) e) ∙ h)
-off_ok {M} {C} R Ends k m left c e h q = let z : ◌≡◌ {A = ℕ} 0 1 = cc in omega arith
+off_ok {M} {C} R Refuses k m left c e h q = let f = rw e at h in cc
+off_ok {M} {C} R Ends k m left c e h q = cc
 
 module _ {E S R : Type 0} (entry : List ℕ → Result (Option E) Fault) (fill : List E → S → S) (judges : S → Result R Fault) (fresh : S) (on_break : Break)
     (more : (e : E) (es : List E) → fill (e ∷ []) (fill es fresh) ≡ fill (e ∷ es) fresh) where
@@ -76,20 +70,20 @@ module _ {E S R : Type 0} (entry : List ℕ → Result (Option E) Fault) (fill :
 
   -- a good line goes on with its entry
   good-on : (r : Result (Option E) Fault) (es : List E) → good r ≡ true → after_entry fill (fill es fresh) r ≡ Ok (fill (put r es) fresh)
-  good-on (Ok o) es g = ap (λ (s : S). Ok s) (entered-put o es)
-  good-on (Err f) es g = not_true g
+  good-on (Ok o) es g = rw (entered-put o es)
+  good-on (Err f) es g = cc
 
   -- a line that is not refused was good
   on_good : (r : Result (Option E) Fault) (s : S) → result_err (after_entry fill s r) ≡ None → good r ≡ true
   on_good (Ok o) s e = refl
-  on_good (Err f) s e = let z : ◌≡◌ {A = ℕ} 0 1 = cc in absurd (omega arith)
+  on_good (Err f) s e = cc
 
   -- the parts of a sound line
   sound-parts : (a b c d : Bool) → cond a false (cond b true (cond c d false)) ≡ true → (a ≡ false) × (b ≡ false → (c ≡ true) × (d ≡ true))
-  sound-parts true b c d e = not_true e
-  sound-parts false true c d e = (refl, λ f. not_false f)
+  sound-parts true b c d e = cc
+  sound-parts false true c d e = (refl, λ f. cc)
   sound-parts false false true d e = (refl, λ _. (refl, e))
-  sound-parts false false false d e = not_true e
+  sound-parts false false false d e = cc
 
   abbrev answer : ℕ → List E → Bool → List (List ℕ) → Result R Refusal
   answer k es broken ls = at_line (k + length (before broken ls)) (judges (fill (entries_of entry es (before broken ls)) fresh))
@@ -126,7 +120,7 @@ module _ {E S R : Type 0} (entry : List ℕ → Result (Option E) Fault) (fill :
   over : (k : ℕ) (es : List E) (broken : Bool) → (on_break ≡ Refuses → broken ≡ false) → ends rules (ending on_break broken k, Ok (fill es fresh), []) ≡ answer k es broken []
   unfolding before entries_of
   over k es false w = let z : k + 0 ≡ k = omega arith in rw z
-  over k es true w = let z : k + 0 ≡ k = omega arith in rw z (off_ends rules on_break k (Ok (fill es fresh)) [] refl (λ q. not_false (w q)))
+  over k es true w = let z : k + 0 ≡ k = omega arith in rw z (off_ends rules on_break k (Ok (fill es fresh)) [] refl (λ q. let f = w q in cc))
 
   forward : (most : ℕ) (broken : Bool) (k s : ℕ) (es : List E) (ls : List (List ℕ)) → sound entry broken ls ≡ true → s + length (text_of (through broken ls)) ≤ most → (on_break ≡ Refuses → breaks_off broken ls ≡ false) →
       ends rules (walk 4096 most rules broken k s (Ok (fill es fresh)) ls) ≡ answer k es broken ls
@@ -137,9 +131,9 @@ module _ {E S R : Type 0} (entry : List ℕ → Result (Option E) Fault) (fill :
       let go : Result S Fault → Outcome (Result S Fault) = λ st. walk 4096 most rules broken (k + 1) (s + length l) st ls in
       let p = sound-parts (long 4096 l) (breaks broken l) (good (entry l)) (sound entry broken ls) h in
       elim (brought 4096 most rules broken k s m l (text_of ls) (go (rules.next m l))) [
-        | too_long x o a e ↦ not_true (sym p.0 ∙ a)
+        | too_long x o a e ↦ cc (p.0, a)
         | too_much x a e ↦ absurd (omega (arith, through-least broken l ls))
-        | off a b c e ↦ ap (ends rules) e ∙ off_ends rules on_break k m (text_of ls) refl (λ q. not_false (sym (off_off broken l ls c) ∙ w q)) ∙ after-off k es broken l ls c
+        | off a b c e ↦ ap (ends rules) e ∙ off_ends rules on_break k m (text_of ls) refl (λ q. let f = w q in let g = off_off broken l ls c in cc) ∙ after-off k es broken l ls c
         | on a b c e ↦
             let q = p.1 c in
             ap (ends rules) e
@@ -150,7 +144,7 @@ module _ {E S R : Type 0} (entry : List ℕ → Result (Option E) Fault) (fill :
 
   fault-ok : (o : Option Fault) (line : ℕ) (m : Result S Fault) (left : List ℕ) (go : Outcome (Result S Fault)) (c : R) → ends rules (on_fault o line m left go) ≡ Ok c → (o ≡ None) × (ends rules go ≡ Ok c)
   fault-ok None line m left go c e = (refl, e)
-  fault-ok (Some f) line m left go c e = no _ c e
+  fault-ok (Some f) line m left go c e = cc
 
   sound-on : (broken : Bool) (l : List ℕ) (ls : List (List ℕ)) → long 4096 l ≡ false → good (entry l) ≡ true → sound entry broken ls ≡ true → sound entry broken (l ∷ ls) ≡ true
   unfolding sound
@@ -175,8 +169,8 @@ module _ {E S R : Type 0} (entry : List ℕ → Result (Option E) Fault) (fill :
       let m = Ok (fill es fresh) in
       let go : Result S Fault → Outcome (Result S Fault) = λ st. walk 4096 most rules broken (k + 1) (s + length l) st ls in
       elim (brought 4096 most rules broken k s m l (text_of ls) (go (rules.next m l))) [
-        | too_long f o a e ↦ no _ c (sym (ap (ends rules) e) ∙ x)
-        | too_much f a e ↦ no _ c (sym (ap (ends rules) e) ∙ x)
+        | too_long f o a e ↦ let f = rw e at x in cc
+        | too_much f a e ↦ let f = rw e at x in cc
         | off a b d e ↦ (
           sound-off broken l ls a d,
           omega (arith, through-off broken l ls d),

@@ -1,5 +1,5 @@
 -- A list read item by item is the list read as a whole.
-use Rattle.std.proofs.Common.{◌≡◌, ℕ, suc, ◌+◌, ◌-◌, ◌<◌, ◌≤◌, List, [], ◌∷◌, ◌++◌, length, replicate, Some, None, Ok, Err, Option, Result, sym, refl, ap, ◌∙◌, append_assoc, append-nil, arith, length-append, ne_eqb, Bor}
+use Rattle.std.proofs.Common.{◌≡◌, ℕ, suc, ◌+◌, ◌-◌, ◌<◌, ◌≤◌, List, [], ◌∷◌, ◌++◌, length, Some, None, Ok, Err, Option, Result, sym, refl, ap, ◌∙◌, append_assoc, append-nil, arith, length-append, ne_eqb, Bor}
 use lib.Seq.{set-append_seam}
 use Rattle.std.specs.Iterator.{AlwaysYields}
 use Rattle.sources.specs.declared.fault.NumberFault.{NumberFault}
@@ -9,7 +9,7 @@ use Rattle.fields.specs.declared.list.ListFault.{ListFault}
 use Rattle.fields.specs.declared.list.ListFault.TheVariants.{Full}
 use Rattle.fields.specs.declared.counted.Counted.{Counted}
 use Rattle.fields.specs.Counted.{counted, with_item}
-use Rattle.fields.specs.Lists.{bad_for, listed, filled}
+use Rattle.fields.specs.Lists.{bad_for, listed, filled, IsFilled}
 
 module _ {S A B : Type 0} (steps : S → Option A → S → Type 0) (v : A → B) {it to : S} where
   -- where an iterator ends, and where it gives one item more
@@ -44,10 +44,6 @@ set_next {X} n b done x h =
     let k : n - length done ≡ suc (n - length (done ++ (x ∷ []))) = omega arith in
     rw (k, l, set-append_seam done b _ x, append_assoc done (x ∷ []) _)
 
--- an answer to the whole, for some blank
-abbrev pub Filled : {X : Type 0} → (X → Type 0) → (List ℕ → Result X NumberFault) → (n : ℕ) → List (List ℕ) → Result (Counted X n) ListFault → Type 0
-Filled {X} D R n whole r = (b : X) × D b × (r ≡ filled R b n whole)
-
 -- A list holds the items `done`, and the whole is answered as what is left behind them, which the iterator gives.
 pub record Had {S X : Type 0} (steps : S → Option (Bor (List ℕ)) → S → Type 0) (D : X → Type 0) (R : List ℕ → Result X NumberFault) (n : ℕ) (whole : List (List ℕ)) (it : S) (list : Counted X n) : Type 0 where
   pub blank : X
@@ -66,17 +62,17 @@ module _ {S X : Type 0} {steps : S → Option (Bor (List ℕ)) → S → Type 0}
   none_had h y = let z : n - 0 ≡ n = omega arith in record { blank = h.0; is_blank = h.1; done = []; left = whole; gives = y; fits = omega arith; has = h.2; same = rw z }
 
   -- behind the last
-  pub all_had : {to : S} → Had steps D R n whole it list → steps it None to → Filled D R n whole (Ok list)
+  pub all_had : {to : S} → Had steps D R n whole it list → steps it None to → IsFilled D R n whole (Ok list)
   unfolding listed
   all_had {to} h s = let e = nothing_left steps bytes_of h.left h.gives s in (h.blank, h.is_blank, rw (h.same, e, h.has, append-nil h.done))
 
   -- at a bad piece
-  pub bad : {to : S} {p : Bor (List ℕ)} {f : NumberFault} → Had steps D R n whole it list → steps it (Some p) to → R p.now ≡ Err f → Filled D R n whole (Err (bad_for f))
+  pub bad : {to : S} {p : Bor (List ℕ)} {f : NumberFault} → Had steps D R n whole it list → steps it (Some p) to → R p.now ≡ Err f → IsFilled D R n whole (Err (bad_for f))
   unfolding listed
   bad {to} {p} {f} h s r = let e = first_left steps bytes_of h.left h.gives s in (h.blank, h.is_blank, rw (h.same, e.1, r))
 
   -- at a good piece, without room for it and with room
-  pub full : {to : S} {p : Bor (List ℕ)} {x : X} → Had steps D R n whole it list → steps it (Some p) to → R p.now ≡ Ok x → n ≤ list.len → Filled D R n whole (Err Full)
+  pub full : {to : S} {p : Bor (List ℕ)} {x : X} → Had steps D R n whole it list → steps it (Some p) to → R p.now ≡ Ok x → n ≤ list.len → IsFilled D R n whole (Err Full)
   unfolding listed
   full {to} {p} {x} h s r m =
       let e = first_left steps bytes_of h.left h.gives s in

@@ -1,5 +1,5 @@
 -- One reading of lists, over what an item means: a function from a piece to a value or a fault.
-use Rattle.std.specs.Prelude.{ℕ, ◌-◌, cond, List, [], ◌∷◌, Ok, Err, Result, ◌==◌}
+use Rattle.std.specs.Prelude.{◌≡◌, ℕ, ◌-◌, cond, List, [], ◌∷◌, Ok, Err, Result, ◌==◌}
 use Rattle.sources.specs.declared.fault.NumberFault.{NumberFault}
 use Rattle.sources.specs.declared.fault.NumberFault.TheVariants.{Unreadable}
 use Rattle.sources.specs.declared.fault.Fault.{Fault}
@@ -27,6 +27,10 @@ listed {X} R room (p ∷ ps) =
 -- The same in a table of n cells.
 unfoldable pub filled : {X : Type 0} → (List ℕ → Result X NumberFault) → X → (n : ℕ) → List (List ℕ) → Result (Counted X n) ListFault
 filled {X} R blank n ps = and_then (listed R n ps) (λ xs. Ok (counted n blank xs))
+
+-- An answer is that reading, and the cells behind the items hold some default.
+abbrev pub IsFilled : {X : Type 0} → (X → Type 0) → (List ℕ → Result X NumberFault) → (n : ℕ) → List (List ℕ) → Result (Counted X n) ListFault → Type 0
+IsFilled {X} D R n ps r = (blank : X) × D blank × (r ≡ filled R blank n ps)
 
 -- What the closing of a kind makes of it.
 abbrev pub list_fault_for : ListFault → Fault

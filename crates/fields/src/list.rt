@@ -1,7 +1,7 @@
 ghost use Rattle.std.specs.Prelude.{◌≡◌};
 ghost use Rattle.std.specs.Iterator.{IsFinite, AlwaysYields};
 ghost use Rattle.sources.specs.Pieces.{bytes_of};
-ghost use Rattle.fields.specs.Lists.{bad_for, list_fault_for, filled};
+ghost use Rattle.fields.specs.Lists.{bad_for, list_fault_for, IsFilled};
 
 use crate::counted::Counted;
 use crate::item::Item;
@@ -40,7 +40,7 @@ pub fn read_list<'a, I: Item, P: Iterator<Item = &'a str> + Drop, const N: usize
 ) -> Result<Counted<I::Value, N>, ListFault>
     requires can { P.can_next pieces }
     requires ends { IsFinite (P.remaining pieces) }
-    ensures { (texts : _) → AlwaysYields P.next_gives bytes_of pieces texts → (blank : I.Value) × I.Value.is_default blank × (result ≡ filled I.Item.reading blank N texts) }
+    ensures { (texts : _) → AlwaysYields P.next_gives bytes_of pieces texts → IsFilled I.Value.is_default I.Item.reading N texts result }
 {
     let mut list = Counted::default();
     for piece in pieces {

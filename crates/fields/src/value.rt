@@ -3,7 +3,7 @@ ghost use Rattle.std.specs.Option.{option_map};
 ghost use Rattle.sources.specs.Faults.{as_fault};
 ghost use Rattle.sources.specs.Pieces.{bytes_of};
 ghost use Rattle.sources.specs.White.{white_words};
-ghost use Rattle.fields.specs.Lists.{filled};
+ghost use Rattle.fields.specs.Lists.{IsFilled};
 ghost use Rattle.fields.specs.Values.{comma_parts, kilobytes_of, word_of, four_of, two_of, pair_of, groups_of, spaces_of, mask_of, ranges_of, flag_of};
 
 use crate::counted::Counted;
@@ -85,14 +85,14 @@ pub fn pair(text: &str) -> Result<(u64, u64), Fault>
 
 // A list of the items that the words of a text mean.
 fn words_list<I: Item, const N: usize>(text: &str) -> Result<Counted<I::Value, N>, ListFault>
-    ensures { (blank : I.Value) × I.Value.is_default blank × (result ≡ filled I.Item.reading blank N (white_words text.now)) }
+    ensures { IsFilled I.Value.is_default I.Item.reading N (white_words text.now) result }
 {
     read_list::<I, _, N>(text.split_whitespace())
 }
 
 // A list of the items between commas.
 fn commas_list<I: Item, const N: usize>(text: &str) -> Result<Counted<I::Value, N>, ListFault>
-    ensures { (blank : I.Value) × I.Value.is_default blank × (result ≡ filled I.Item.reading blank N (comma_parts text.now)) }
+    ensures { IsFilled I.Value.is_default I.Item.reading N (comma_parts text.now) result }
 {
     read_list::<I, _, N>(text.split(','))
 }
