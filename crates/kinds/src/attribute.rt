@@ -23,9 +23,7 @@ fn bare(word: &str) -> &str
 fn amount(word: &str) -> Result<u64, Fault>
     ensures { result ≡ amount_of word.now }
 {
-    <u64 as FromStrRadix>::from_str_radix(word, Radix::Decimal).map_err(|_| Fault::new(
-        Reason::Value,
-    ))
+    FromStrRadix::from_str_radix(word, Radix::Decimal).map_err(|_| Fault::new(Reason::Value))
 }
 
 // The number, times 1024 where a word follows it.

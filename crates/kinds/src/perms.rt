@@ -39,8 +39,8 @@ impl MMPermissions {
         ensures { result.bits ≡ perms_of text.now }
     {
         let mut bits = 0;
-        for b in text.bytes() {
-            bits |= Self::from_ascii_char(b);
+        for b in text.as_bytes() {
+            bits |= Self::from_ascii_char(*b);
         }
         MMPermissions { bits }
     }
