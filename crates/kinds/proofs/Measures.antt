@@ -175,7 +175,7 @@ measures cap most [] c w g = cc (g.is, closed_over)
 measures cap most (l ∷ ls) c w g =
     let d = good-parts l ls g.good in
     let x = first_of (sort_of l) g.begins d.fine in
-    let f : fault_of (next cap NoMapping (sort_of l)) ≡ None = ap (λ (s : Sort). fault_of (next cap NoMapping s)) x in
+    let f : fault_of (next cap NoMapping (sort_of l)) ≡ None = rw x in
     let y = g.begins in
     let i = reaches cap most 1 (0 + length l) first ls c (omega (arith, some_byte l x)) w
     (record { good = d.later; fits = omega (arith, g.fits, text_cons l ls); light = λ k. omega (arith, g.light k, first_sum k l ls y); is = g.is ∙ sym (first_closed l ls y) }) in
@@ -186,5 +186,5 @@ pub reading-measures : (broken : Bool) (text : List ℕ) → Measures broken tex
 unfolding reading course
 reading-measures broken text c = (
   λ e. measured 72057594037927936 268435456 broken (lines_of text) c (omega arith) e,
-  λ g. ap (λ (t : Bool). ends measure_rules (walk 4096 268435456 measure_rules t 0 0 NoMapping (lines_of text))) g.0 ∙ measures 72057594037927936 268435456 (lines_of text) c (omega arith) g.1,
+  λ g. rw (g.0) (measures 72057594037927936 268435456 (lines_of text) c (omega arith) g.1),
 )

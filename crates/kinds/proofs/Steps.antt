@@ -130,9 +130,13 @@ step_stays l t o w v = record {
   sums = λ k ls. rw (rest_goes k (figure k t.last) l ls w, v k);
 }
 
+no_head : (g : Fault) (x : Result Tally Fault) → fault_of (headed x (Err g)) ≡ None → ⊥
+no_head g (Ok y) f = cc
+no_head g (Err k) f = cc
+
 pub step_sound : (cap : ℕ) (l : List ℕ) (t : Tally) (x : Sort) → sort_of l ≡ x → t.mappings + length l ≤ 4294967295 → fault_of (next cap (InMapping t) x) ≡ None → Stepped l t (next cap (InMapping t) x) × (sound x ≡ true)
 step_sound cap l t (Mapping (Ok u)) e h f = (step_headed cap l t (closed_with cap t) e h refl f, refl)
-step_sound cap l t (Mapping (Err g)) e h f = absurd (elim (opened cap t) as (λ x. fault_of (headed x (Err g)) ≡ None → ⊥) [ Ok y ↦ (λ q. cc) | Err k ↦ (λ q. cc) ] f)
+step_sound cap l t (Mapping (Err g)) e h f = absurd (no_head g (opened cap t) f)
 step_sound cap l t (Attribute (Ok None)) e h f = (step_stays l t t.last (ap opens e) (λ k. ap (newest k (figure k t.last)) (sym e)), refl)
 step_sound cap l t (Attribute (Ok (Some s))) e h f =
     (step_stays l t (set_to s t.last) (ap opens e) (λ k. figure-with k s.key s.amount t.last ∙ ap (newest k (figure k t.last)) (sym e)), refl)

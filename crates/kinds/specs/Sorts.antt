@@ -3,7 +3,7 @@ use Rattle.std.specs.Prelude.{ℕ, Bool, false, cond, List, [], ◌∷◌, Some,
 use Rattle.std.specs.Option.{option_map, option_and_then}
 use Rattle.std.specs.Str.{bytes_eq}
 use Rattle.sources.specs.declared.fault.Fault.{Fault}
-use Rattle.sources.specs.Faults.{and_then}
+use Rattle.std.specs.Result.{result_map_both}
 use Rattle.sources.specs.Pieces.{case_of, past}
 use Rattle.kinds.specs.declared.sort.Key.{Key}
 use Rattle.kinds.specs.declared.sort.Key.TheVariants.{Rss, Pss, SwapPss}
@@ -24,7 +24,7 @@ set_by (Some e) = option_map (λ k. record { key = k; amount = e.amount }) (key_
 
 -- What an attribute line sets, where it is good; "VmFlags" sets no key.
 abbrev pub setting_of : List ℕ → Result (Option Setting) Fault
-setting_of line = case_of (past (codes "VmFlags") line) (and_then (entry_of line) (λ e. Ok (set_by e))) (λ _. Ok None)
+setting_of line = case_of (past (codes "VmFlags") line) (result_map_both set_by (λ f. f) (entry_of line)) (λ _. Ok None)
 
 -- Whether the first byte is one of A to Z.
 abbrev pub capital : List ℕ → Bool
@@ -33,4 +33,4 @@ capital (b ∷ bs) = cond (nat_lt b 65) false (nat_lt b 91)
 
 -- A line that starts with A to Z is an attribute's, and any other a mapping's; each is good or refused.
 abbrev pub sort_of : List ℕ → Sort
-sort_of line = cond (capital line) (sort.Attribute (setting_of line)) (sort.Mapping (and_then (mapping_of line) (λ m. Ok tt)))
+sort_of line = cond (capital line) (sort.Attribute (setting_of line)) (sort.Mapping (result_map_both (λ m. tt) (λ f. f) (mapping_of line)))

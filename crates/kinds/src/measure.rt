@@ -92,17 +92,18 @@ impl Figures {
     fn set(self, setting: Setting) -> Figures
         ensures { result ≡ set_to setting self }
     {
-        match setting.key {
+        let Setting { key, amount } = setting;
+        match key {
             Key::Rss => Figures {
-                rss: setting.amount,
+                rss: amount,
                 ..self
             },
             Key::Pss => Figures {
-                pss: setting.amount,
+                pss: amount,
                 ..self
             },
             Key::SwapPss => Figures {
-                swap_pss: setting.amount,
+                swap_pss: amount,
                 ..self
             },
         }
