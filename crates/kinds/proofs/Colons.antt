@@ -1,5 +1,5 @@
 -- What std's `trim_end_matches` leaves of a word, where it cuts off colons.
-use Rattle.std.proofs.Common.{◌≡◌, ℕ, ◌<◌, ◌≤◌, ◌-◌, Bool, true, false, cond, eqb, List, [], ◌∷◌, ◌++◌, reverse, length, take, Some, None, Option, IfSome, sym, refl, ap, ◌∙◌, arith, lit<, eqb-true}
+use Rattle.std.proofs.Common.{◌≡◌, ℕ, ◌≤◌, ◌-◌, Bool, true, false, cond, eqb, List, [], ◌∷◌, ◌++◌, reverse, length, take, Some, None, Option, IfSome, sym, refl, ap, ◌∙◌, arith, lit<, eqb-true}
 use mathlib.Core.List.{reverse-append, reverse-reverse}
 use Rattle.std.proofs.lemmas.Str.Pattern.{ends_char}
 use Rattle.std.specs.Str.Pattern.{FindsCharSuffix, CutsSuffixes, IsTrimEndMatches}

@@ -1,5 +1,5 @@
 -- The measure of two texts joined.
-use Rattle.std.proofs.Common.{◌≡◌, ℕ, suc, ◌+◌, ◌-◌, Bool, true, false, cond, eqb, List, [], ◌∷◌, ◌++◌, length, get_or, Ok, sym, refl, ap, ◌∙◌, arith, length-append}
+use Rattle.std.proofs.Common.{◌≡◌, ℕ, suc, ◌+◌, ◌-◌, true, false, cond, eqb, List, [], ◌∷◌, ◌++◌, length, get_or, Ok, sym, refl, ap, ◌∙◌, arith, length-append}
 use Rattle.sources.specs.Lines.{lines_of, text_of, ahead, ended, reading}
 use Rattle.sources.proofs.Split.{text_lines, lines_cons}
 use Rattle.kinds.specs.declared.sort.Key.{Key}

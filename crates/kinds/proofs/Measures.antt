@@ -1,6 +1,6 @@
 -- Which texts are measured, and as what.
-use Rattle.std.proofs.Common.{◌≡◌, ℕ, ◌+◌, ◌≤◌, Bool, true, false, cond, List, [], ◌∷◌, length, Some, None, Ok, Err, Option, Result, sym, refl, ap, ◌∙◌, arith, length-append}
-use Rattle.sources.specs.declared.fault.Refusal.{Refusal}
+use Rattle.std.proofs.Common.{◌≡◌, ℕ, ◌+◌, ◌≤◌, Bool, true, false, List, [], ◌∷◌, length, None, Ok, Err, Result, sym, refl, ap, ◌∙◌, arith, length-append}
+use Rattle.std.proofs.lemmas.Bool.{and_parts, not-true}
 use Rattle.sources.specs.declared.kind.Break.TheVariants.{Refuses}
 use Rattle.sources.specs.Lines.{lines_of, text_of, long, walk, ending, course, reading}
 use Rattle.sources.specs.Faults.{at_line, and_then}
@@ -44,15 +44,13 @@ pub record Good (l : List ℕ) (ls : List (List ℕ)) : Type 0 where
   pub fine : sound (sort_of l) ≡ true
   pub later : orderly ls ≡ true
 
-good-from : (a b c d : Bool) → cond a false (cond b (cond c d false) false) ≡ true → (a ≡ false) × (b ≡ true) × (c ≡ true) × (d ≡ true)
-good-from true b c d e = cc
-good-from false false c d e = cc
-good-from false true false d e = cc
-good-from false true true d e = (refl, refl, refl, e)
-
 pub good-parts : (l : List ℕ) (ls : List (List ℕ)) → orderly (l ∷ ls) ≡ true → Good l ls
 unfolding orderly
-good-parts l ls e = let g = good-from (long 4096 l) (is_utf8 l) (sound (sort_of l)) (orderly ls) e in record { short = g.0; text = g.1; fine = g.2; later = g.3 }
+good-parts l ls e =
+    let p = and_parts _ (orderly ls) e in
+    let q = and_parts _ (sound (sort_of l)) p.0 in
+    let r = and_parts _ (is_utf8 l) q.0 in
+    record { short = not-true _ r.0; text = r.1; fine = q.1; later = p.1 }
 
 pub good-all : (l : List ℕ) (ls : List (List ℕ)) → Good l ls → orderly (l ∷ ls) ≡ true
 unfolding orderly

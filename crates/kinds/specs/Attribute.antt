@@ -3,7 +3,6 @@ use Rattle.std.specs.Prelude.{ℕ, ◌*◌, ◌^◌, cond, List, [], ◌∷◌, 
 use Rattle.std.specs.Option.{option_map}
 use Rattle.std.specs.Result.{result_map_both}
 use Rattle.sources.specs.declared.fault.Fault.{Fault}
-use Rattle.sources.specs.declared.fault.NumberFault.{NumberFault}
 use Rattle.sources.specs.declared.number.Radix.TheVariants.{Decimal}
 use Rattle.sources.specs.declared.reason.Reason.TheVariants.{Value, Scale}
 use Rattle.sources.specs.Faults.{fault, and_then}

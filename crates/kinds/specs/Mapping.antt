@@ -1,5 +1,5 @@
 -- A mapping's line: six pieces at single spaces, the sixth holding the rest; then each is read in turn.
-use Rattle.std.specs.Prelude.{ℕ, List, ℤ, Ok, Err, Result}
+use Rattle.std.specs.Prelude.{ℕ, List, ℤ, Ok, Result}
 use Rattle.std.specs.Borrow.{Bor}
 use Rattle.std.specs.Option.{ok_or}
 use Rattle.std.specs.Result.{result_map_both}

@@ -1,5 +1,5 @@
 -- The rules of a measure keep the laws of a kind. (The proofs stand here since an implementation of a trait can cite specs/ alone.)
-use Rattle.std.specs.Prelude.{◌≡◌, ℕ, Bool, true, false, Some, None, Ok, Err, Option, Result, refl}
+use Rattle.std.specs.Prelude.{◌≡◌, ℕ, true, Some, None, Ok, Err, Result, refl}
 use Rattle.sources.specs.declared.fault.Fault.{Fault}
 use Rattle.sources.specs.Rules.{RefusalStays, ForeignIsAside, BeginsWithALine}
 use Rattle.kinds.specs.declared.sort.Sort.{Sort}

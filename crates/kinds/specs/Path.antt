@@ -1,5 +1,5 @@
 -- What a mapping is of, by the bytes of its path.
-use Rattle.std.specs.Prelude.{ℕ, cond, not, ◌&&◌, List, [], length, ℤ, None, Ok, Err, codes, Option, Result, ◌==◌, slice_index}
+use Rattle.std.specs.Prelude.{ℕ, cond, not, ◌&&◌, List, [], length, ℤ, None, Ok, codes, Option, Result, ◌==◌, slice_index}
 use Rattle.std.specs.Int.{w32}
 use Rattle.std.proofs.Common.{to_z}
 use Rattle.std.specs.Option.{option_map, ok_or, unwrap_or}

@@ -1,6 +1,6 @@
 -- The sort of a line of smaps text, for a measure.
 use Rattle.std.specs.Prelude.{ℕ, Bool, false, cond, List, [], ◌∷◌, Some, None, Ok, codes, Option, Result, nat_lt}
-use Rattle.std.specs.Option.{option_map, option_and_then}
+use Rattle.std.specs.Option.{option_map}
 use Rattle.std.specs.Str.{bytes_eq}
 use Rattle.sources.specs.declared.fault.Fault.{Fault}
 use Rattle.std.specs.Result.{result_map_both}

@@ -1,5 +1,5 @@
 -- The mappings of a text, what they add up to, and which texts are measured.
-use Rattle.std.specs.Prelude.{◌≡◌, ℕ, ◌+◌, ◌≤◌, Bool, true, false, cond, List, [], ◌∷◌, ◌++◌, length, Some, Ok, Result}
+use Rattle.std.specs.Prelude.{◌≡◌, ℕ, ◌+◌, ◌≤◌, Bool, true, false, cond, not, ◌&&◌, List, [], ◌∷◌, ◌++◌, length, Some, Ok, Result}
 use Rattle.std.specs.Result.{is_ok}
 use Rattle.sources.specs.Lines.{lines_of, text_of, long, ended, reading, max_line, max_text}
 use Rattle.sources.specs.Utf8.{is_utf8}
@@ -37,14 +37,9 @@ mappings_of (l ∷ ls) = cond (opens (sort_of l)) (body ls ∷ mappings_of ls) (
 -- Whether two keys are the same.
 abbrev pub same : Key → Key → Bool
 same Rss Rss = true
-same Rss Pss = false
-same Rss SwapPss = false
-same Pss Rss = false
 same Pss Pss = true
-same Pss SwapPss = false
-same SwapPss Rss = false
-same SwapPss Pss = false
 same SwapPss SwapPss = true
+same _ _ = false
 
 -- The value of a key after a line, where it was v.
 abbrev pub newest : Key → ℕ → Sort → ℕ
@@ -68,7 +63,7 @@ total k ls = sum_over k (mappings_of ls)
 -- Whether all lines are UTF-8, none too long, and each good.
 unfoldable pub orderly : List (List ℕ) → Bool
 orderly [] = true
-orderly (l ∷ ls) = cond (long max_line l) false (cond (is_utf8 l) (cond (sound (sort_of l)) (orderly ls) false) false)
+orderly (l ∷ ls) = not (long max_line l) && is_utf8 l && sound (sort_of l) && orderly ls
 
 -- Whether the first line, if any, opens a mapping.
 abbrev pub starts : List (List ℕ) → Bool

@@ -15,7 +15,7 @@ use sources::reason::Reason;
 use sources::source::Source;
 use sources::spool::Spool;
 
-// The most that one total may be, 2 to the 56th.
+// The most that one total may be, 2 to the 56th. It is passed on as `cap`, so that no proof opens so large a number.
 const CAP: u64 = 72057594037927936;
 
 // One figure for each of the keys, in bytes.
@@ -34,7 +34,7 @@ pub struct Tally {
     last: Figures,
 }
 
-// Where an open measure stands.
+// Where an open measure stands. It is no Result, by a rule of the project: a measure matches its state together with the sort of line that arrives.
 #[derive(Clone, Copy)]
 pub enum State {
     NoMapping,

@@ -21,7 +21,7 @@ pub struct Setting {
     pub amount: u64,
 }
 
-// The sorts of line: one that opens a mapping, and an attribute, which sets one of the keys or none; each is read, or badly written.
+// The sorts of line: one that opens a mapping, and an attribute's, which sets one of the keys or none. Each may be badly written.
 #[derive(Clone, Copy)]
 pub enum Sort {
     Mapping(Result<(), Fault>),

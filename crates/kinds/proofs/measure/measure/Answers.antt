@@ -1,9 +1,3 @@
-use Rattle.std.proofs.Common.{◌≡◌, ℕ, List, Result, ap, ◌∙◌}
-use Rattle.sources.specs.declared.fault.Refusal.{Refusal}
-use Rattle.sources.specs.Lines.{reading}
-use Rattle.kinds.specs.declared.measure.Closed.{Closed}
-use Rattle.kinds.specs.declared.measure.State.{State}
-use Rattle.kinds.specs.Measure.{measure_rules, fresh}
 use Rattle.kinds.proofs.Laws.{laws}
 use Rattle.kinds.proofs.measure.measure.Goals as goal
 
