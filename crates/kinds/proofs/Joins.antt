@@ -1,5 +1,5 @@
 -- The measure of two texts joined.
-use Rattle.std.proofs.Common.{◌≡◌, ℕ, suc, ◌+◌, ◌-◌, true, false, cond, eqb, List, [], ◌∷◌, ◌++◌, length, get_or, Ok, sym, refl, ap, ◌∙◌, arith, length-append}
+use Rattle.std.proofs.Common.{◌≡◌, ℕ, suc, ◌+◌, ◌-◌, true, false, cond, eqb, List, [], ◌∷◌, ◌++◌, length, Ok, sym, refl, ap, ◌∙◌, arith, length-append}
 use Rattle.sources.specs.Lines.{lines_of, text_of, ahead, ended, reading}
 use Rattle.sources.proofs.Split.{text_lines, lines_cons}
 use Rattle.kinds.specs.declared.sort.Key.{Key}
@@ -15,7 +15,7 @@ ended-tail : (x y : ℕ) (ys : List ℕ) → ended (x ∷ y ∷ ys) ≡ ended (y
 ended-tail x y ys =
     let p : suc (suc (length ys)) - 1 ≡ suc (length ys) = omega arith in
     let q : suc (length ys) - 1 ≡ length ys = omega arith in
-    ap (λ (i : ℕ). eqb (get_or (x ∷ y ∷ ys) i 0) 10) p ∙ sym (ap (λ (i : ℕ). eqb (get_or (y ∷ ys) i 0) 10) q)
+    rw (p, q)
 
 -- a text that ends in byte 10, and one after it
 pub lines_join : (t u : List ℕ) → whole t ≡ true → lines_of (t ++ u) ≡ lines_of t ++ lines_of u

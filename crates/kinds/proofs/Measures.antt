@@ -1,10 +1,10 @@
 -- Which texts are measured, and as what.
 use Rattle.std.proofs.Common.{◌≡◌, ℕ, ◌+◌, ◌≤◌, Bool, true, false, List, [], ◌∷◌, length, None, Ok, Err, Result, sym, refl, ap, ◌∙◌, arith, length-append}
 use Rattle.std.proofs.lemmas.Bool.{and_parts, not-true}
-use Rattle.sources.specs.declared.kind.Break.TheVariants.{Refuses}
-use Rattle.sources.specs.Lines.{lines_of, text_of, long, walk, ending, course, reading}
-use Rattle.sources.specs.Faults.{at_line, and_then}
 use Rattle.sources.specs.declared.fault.Fault.{Fault}
+use Rattle.sources.specs.declared.kind.Break.TheVariants.{Refuses}
+use Rattle.sources.specs.Lines.{lines_of, text_of, long, walk, ending, course, reading, max_line, max_text}
+use Rattle.sources.specs.Faults.{at_line, and_then}
 use Rattle.sources.specs.Utf8.{is_utf8}
 use Rattle.kinds.specs.declared.sort.Key.{Key}
 use Rattle.kinds.specs.declared.sort.Key.TheVariants.{Rss, Pss, SwapPss}
@@ -16,7 +16,7 @@ use Rattle.kinds.specs.declared.measure.Tally.{Tally}
 use Rattle.kinds.specs.declared.measure.State.{State}
 use Rattle.kinds.specs.declared.measure.State.TheVariants.{NoMapping, InMapping}
 use Rattle.kinds.specs.Sorts.{sort_of}
-use Rattle.kinds.specs.Measure.{none, first, closed_with, next, fault_of, rules_at, measure_rules, fresh}
+use Rattle.kinds.specs.Measure.{none, first, closed_with, next, fault_of, rules_at, max_total, measure_rules, fresh}
 use Rattle.kinds.specs.Sums.{opens, sound, mappings_of, sum_over, total, figure, orderly, closed_of, Measured, Measures}
 use Rattle.sources.proofs.Walks.{ends, judged-ok, judged-on}
 use Rattle.kinds.proofs.Steps.{rest, plus, total-opens, count_opens, rest_over, count_over, figure-none, sum_some, sum_fits, Stepped, step_sound, step_fine, some_byte}
@@ -39,7 +39,7 @@ closed_over = refl
 
 -- the parts of a good line
 pub record Good (l : List ℕ) (ls : List (List ℕ)) : Type 0 where
-  pub short : long 4096 l ≡ false
+  pub short : long max_line l ≡ false
   pub text : is_utf8 l ≡ true
   pub fine : sound (sort_of l) ≡ true
   pub later : orderly ls ≡ true
@@ -91,11 +91,11 @@ end_ok cap most j s t true c h e = cc
 end_ok cap most j s t false c h e = (refl, shut_ok cap most j s t (closed_with cap t) c refl h e)
 
 sounds : (cap most j s : ℕ) (t : Tally) (broken : Bool) (ls : List (List ℕ)) (c : Closed) → s ≤ most → t.mappings ≤ s → most ≤ 4294967295 →
-    ends (rules_at cap) (walk 4096 most (rules_at cap) broken j s (InMapping t) ls) ≡ Ok c → (broken ≡ false) × Went cap most s t ls c
+    ends (rules_at cap) (walk max_line most (rules_at cap) broken j s (InMapping t) ls) ≡ Ok c → (broken ≡ false) × Went cap most s t ls c
 unfolding walk
 sounds cap most j s t broken [] c h b w e = end_ok cap most j s t broken c h e
 sounds cap most j s t broken (l ∷ ls) c h b w e =
-    let q = judged-ok 4096 most (rules_at cap) broken j s (InMapping t) l (text_of ls) _ c refl e in
+    let q = judged-ok max_line most (rules_at cap) broken j s (InMapping t) l (text_of ls) _ c refl e in
     let p = q.0 in
     let z = step_sound cap l t (sort_of l) refl (omega (arith, p.fits)) p.fine in
     let y = z.0 in
@@ -111,7 +111,7 @@ sounds cap most j s t broken (l ∷ ls) c h b w e =
     )
 
 reaches : (cap most j s : ℕ) (t : Tally) (ls : List (List ℕ)) (c : Closed) → t.mappings ≤ s → most ≤ 4294967295 →
-    Went cap most s t ls c → ends (rules_at cap) (walk 4096 most (rules_at cap) false j s (InMapping t) ls) ≡ Ok c
+    Went cap most s t ls c → ends (rules_at cap) (walk max_line most (rules_at cap) false j s (InMapping t) ls) ≡ Ok c
 unfolding walk
 reaches cap most j s t [] c b w g =
     rw (sum_fits cap t.totals t.last (λ k. omega (arith, g.light k, rest_over k (figure k t.last)))) (cc (g.is, reached_over t))
@@ -122,7 +122,7 @@ reaches cap most j s t (l ∷ ls) c b w g =
     let y = (step_sound cap l t (sort_of l) refl (omega arith) f).0 in
     let i = reaches cap most (j + 1) (s + length l) y.to ls c (omega (arith, y.bound)) w
     (record { good = d.later; fits = omega (arith, g.fits, text_cons l ls); light = λ k. omega (arith, g.light k, y.sums k ls); is = g.is ∙ sym (reached-step l ls t _ y) }) in
-    rw (judged-on 4096 most (rules_at cap) false j s (InMapping t) l (text_of ls) _ (record { short = d.short; fits = u; stands = refl; text = d.text; fine = f }), y.goes) i
+    rw (judged-on max_line most (rules_at cap) false j s (InMapping t) l (text_of ls) _ (record { short = d.short; fits = u; stands = refl; text = d.text; fine = f }), y.goes) i
 
 -- only a good mapping line is accepted first
 first_is : (cap : ℕ) (x : Sort) → fault_of (next cap NoMapping x) ≡ None → x ≡ Mapping (Ok tt)
@@ -147,11 +147,11 @@ first_closed : (l : List ℕ) (ls : List (List ℕ)) → opens (sort_of l) ≡ t
 first_closed l ls e = closed_is (sym (count_opens l ls e)) (first_sum Rss l ls e) (first_sum Pss l ls e) (first_sum SwapPss l ls e)
 
 pub measured : (cap most : ℕ) (broken : Bool) (ls : List (List ℕ)) (c : Closed) → most ≤ 4294967295 →
-    ends (rules_at cap) (walk 4096 most (rules_at cap) broken 0 0 NoMapping ls) ≡ Ok c → (broken ≡ false) × Measured cap most ls c
+    ends (rules_at cap) (walk max_line most (rules_at cap) broken 0 0 NoMapping ls) ≡ Ok c → (broken ≡ false) × Measured cap most ls c
 unfolding walk
 measured cap most broken [] c w e = over_ok cap most broken c e
 measured cap most broken (l ∷ ls) c w e =
-    let q = judged-ok 4096 most (rules_at cap) broken 0 0 NoMapping l (text_of ls) _ c refl e in
+    let q = judged-ok max_line most (rules_at cap) broken 0 0 NoMapping l (text_of ls) _ c refl e in
     let p = q.0 in
     let x = first_is cap (sort_of l) p.fine in
     let y : opens (sort_of l) ≡ true = ap opens x in
@@ -167,7 +167,7 @@ measured cap most broken (l ∷ ls) c w e =
       },
     )
 
-pub measures : (cap most : ℕ) (ls : List (List ℕ)) (c : Closed) → most ≤ 4294967295 → Measured cap most ls c → ends (rules_at cap) (walk 4096 most (rules_at cap) false 0 0 NoMapping ls) ≡ Ok c
+pub measures : (cap most : ℕ) (ls : List (List ℕ)) (c : Closed) → most ≤ 4294967295 → Measured cap most ls c → ends (rules_at cap) (walk max_line most (rules_at cap) false 0 0 NoMapping ls) ≡ Ok c
 unfolding walk
 measures cap most [] c w g = cc (g.is, closed_over)
 measures cap most (l ∷ ls) c w g =
@@ -177,12 +177,12 @@ measures cap most (l ∷ ls) c w g =
     let y = g.begins in
     let i = reaches cap most 1 (0 + length l) first ls c (omega (arith, some_byte l x)) w
     (record { good = d.later; fits = omega (arith, g.fits, text_cons l ls); light = λ k. omega (arith, g.light k, first_sum k l ls y); is = g.is ∙ sym (first_closed l ls y) }) in
-    rw (judged-on 4096 most (rules_at cap) false 0 0 NoMapping l (text_of ls) _ (record { short = d.short; fits = omega (arith, g.fits, text_cons l ls); stands = refl; text = d.text; fine = f }), x) i
+    rw (judged-on max_line most (rules_at cap) false 0 0 NoMapping l (text_of ls) _ (record { short = d.short; fits = omega (arith, g.fits, text_cons l ls); stands = refl; text = d.text; fine = f }), x) i
 
 -- a reading is accepted where its text is measured, and nowhere else
 pub reading-measures : (broken : Bool) (text : List ℕ) → Measures broken text (reading measure_rules broken fresh text).0
 unfolding reading course
 reading-measures broken text c = (
-  λ e. measured 72057594037927936 268435456 broken (lines_of text) c (omega arith) e,
-  λ g. rw (g.0) (measures 72057594037927936 268435456 (lines_of text) c (omega arith) g.1),
+  λ e. measured max_total max_text broken (lines_of text) c (omega arith) e,
+  λ g. rw (g.0) (measures max_total max_text (lines_of text) c (omega arith) g.1),
 )

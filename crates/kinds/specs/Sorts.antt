@@ -1,9 +1,9 @@
 -- The sort of a line of smaps text, for a measure.
 use Rattle.std.specs.Prelude.{ℕ, Bool, false, cond, List, [], ◌∷◌, Some, None, Ok, codes, Option, Result, nat_lt}
 use Rattle.std.specs.Option.{option_map}
+use Rattle.std.specs.Result.{result_map_both}
 use Rattle.std.specs.Str.{bytes_eq}
 use Rattle.sources.specs.declared.fault.Fault.{Fault}
-use Rattle.std.specs.Result.{result_map_both}
 use Rattle.sources.specs.Pieces.{case_of, past}
 use Rattle.kinds.specs.declared.sort.Key.{Key}
 use Rattle.kinds.specs.declared.sort.Key.TheVariants.{Rss, Pss, SwapPss}
