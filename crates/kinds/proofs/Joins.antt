@@ -1,5 +1,5 @@
 -- The measure of two texts joined.
-use Rattle.std.proofs.Common.{◌≡◌, ℕ, suc, ◌+◌, ◌-◌, Bool, true, false, cond, eqb, List, [], ◌∷◌, ◌++◌, length, get_or, Ok, sym, refl, ap, ◌∙◌, arith, length-append}
+use Rattle.std.proofs.Common.{◌≡◌, ℕ, suc, ◌+◌, ◌-◌, true, false, cond, eqb, List, [], ◌∷◌, ◌++◌, length, Ok, sym, refl, ap, ◌∙◌, arith, length-append}
 use Rattle.sources.specs.Lines.{lines_of, text_of, ahead, ended, reading}
 use Rattle.sources.proofs.Split.{text_lines, lines_cons}
 use Rattle.kinds.specs.declared.sort.Key.{Key}
@@ -9,45 +9,42 @@ use Rattle.kinds.specs.Sorts.{sort_of}
 use Rattle.kinds.specs.Measure.{measure_rules, fresh}
 use Rattle.kinds.specs.Sums.{opens, body, mappings_of, sum_over, total, figure, orderly, starts, closed_of, Keeps, both, whole}
 use Rattle.kinds.proofs.Measures.{reading-measures, closed_is, good-parts}
+use Rattle.kinds.proofs.Steps.{by_key}
 
 ended-tail : (x y : ℕ) (ys : List ℕ) → ended (x ∷ y ∷ ys) ≡ ended (y ∷ ys)
 ended-tail x y ys =
     let p : suc (suc (length ys)) - 1 ≡ suc (length ys) = omega arith in
     let q : suc (length ys) - 1 ≡ length ys = omega arith in
-    ap (λ (i : ℕ). eqb (get_or (x ∷ y ∷ ys) i 0) 10) p ∙ sym (ap (λ (i : ℕ). eqb (get_or (y ∷ ys) i 0) 10) q)
+    rw (p, q)
 
 -- a text that ends in byte 10, and one after it
 pub lines_join : (t u : List ℕ) → whole t ≡ true → lines_of (t ++ u) ≡ lines_of t ++ lines_of u
 unfolding lines_of
 lines_join [] u e = refl
-lines_join (x ∷ []) u e =
-    ap (λ (b : Bool). cond b ((x ∷ []) ∷ lines_of u) (ahead x (lines_of u))) e ∙ sym (ap (λ (b : Bool). cond b ((x ∷ []) ∷ []) (ahead x []) ++ lines_of u) e)
+lines_join (x ∷ []) u e = rw e
 lines_join (x ∷ y ∷ ys) u e =
     let ih : lines_of ((y ∷ ys) ++ u) ≡ lines_of (y ∷ ys) ++ lines_of u = lines_join (y ∷ ys) u (sym (ended-tail x y ys) ∙ e) in
-    let q = lines_cons y ys in
-    let a : ahead x (lines_of ((y ∷ ys) ++ u)) ≡ ahead x (lines_of (y ∷ ys)) ++ lines_of u =
-    ap (ahead x) ih ∙ ap (λ (xs : List (List ℕ)). ahead x (xs ++ lines_of u)) q ∙ sym (ap (λ (xs : List (List ℕ)). ahead x xs ++ lines_of u) q) in
+    let a : ahead x (lines_of ((y ∷ ys) ++ u)) ≡ ahead x (lines_of (y ∷ ys)) ++ lines_of u = rw (ih, lines_cons y ys) in
     elim (eqb x 10)
     as (λ b. cond b ((x ∷ []) ∷ lines_of ((y ∷ ys) ++ u)) (ahead x (lines_of ((y ∷ ys) ++ u))) ≡ cond b ((x ∷ []) ∷ lines_of (y ∷ ys)) (ahead x (lines_of (y ∷ ys))) ++ lines_of u)
-    [ true ↦ ap (λ (ls : List (List ℕ)). (x ∷ []) ∷ ls) ih | false ↦ a ]
+    [ true ↦ rw ih | false ↦ a ]
 
 body-starts : (ms : List (List ℕ)) → starts ms ≡ true → body ms ≡ []
 unfolding body
 body-starts [] e = refl
-body-starts (b ∷ ms) e = ap (λ (t : Bool). cond t [] (b ∷ body ms)) e
+body-starts (b ∷ ms) e = rw e
 
 body-join : (ls ms : List (List ℕ)) → starts ms ≡ true → body (ls ++ ms) ≡ body ls
 unfolding body
 body-join [] ms e = body-starts ms e
-body-join (l ∷ ls) ms e = ap (λ (x : List (List ℕ)). cond (opens (sort_of l)) [] (l ∷ x)) (body-join ls ms e)
+body-join (l ∷ ls) ms e = rw (body-join ls ms e)
 
 mappings_join : (ls ms : List (List ℕ)) → starts ms ≡ true → mappings_of (ls ++ ms) ≡ mappings_of ls ++ mappings_of ms
 unfolding mappings_of
 mappings_join [] ms e = refl
 mappings_join (l ∷ ls) ms e =
-    let ih = mappings_join ls ms e in
-    elim (opens (sort_of l)) as (λ b. cond b (body (ls ++ ms) ∷ mappings_of (ls ++ ms)) (mappings_of (ls ++ ms)) ≡ cond b (body ls ∷ mappings_of ls) (mappings_of ls) ++ mappings_of ms)
-    [ true ↦ ap (λ (x : List (List ℕ)). x ∷ mappings_of (ls ++ ms)) (body-join ls ms e) ∙ ap (λ (x : List (List (List ℕ))). body ls ∷ x) ih | false ↦ ih ]
+    rw (mappings_join ls ms e, body-join ls ms e)
+    (elim (opens (sort_of l)) as (λ b. cond b (body ls ∷ (mappings_of ls ++ mappings_of ms)) (mappings_of ls ++ mappings_of ms) ≡ cond b (body ls ∷ mappings_of ls) (mappings_of ls) ++ mappings_of ms) [ true ↦ refl | false ↦ refl ])
 
 sum_join : (k : Key) (a b : List (List (List ℕ))) → sum_over k (a ++ b) ≡ sum_over k a + sum_over k b
 unfolding sum_over
@@ -55,7 +52,7 @@ sum_join k [] b = omega arith
 sum_join k (g ∷ a) b = omega (arith, sum_join k a b)
 
 pub total-join : (k : Key) (ls ms : List (List ℕ)) → starts ms ≡ true → total k (ls ++ ms) ≡ total k ls + total k ms
-total-join k ls ms e = ap (sum_over k) (mappings_join ls ms e) ∙ sum_join k (mappings_of ls) (mappings_of ms)
+total-join k ls ms e = rw (mappings_join ls ms e) (sum_join k (mappings_of ls) (mappings_of ms))
 
 orderly-join : (ls ms : List (List ℕ)) → orderly ls ≡ true → orderly (ls ++ ms) ≡ orderly ms
 unfolding orderly
@@ -71,9 +68,7 @@ closed_join ls ms e =
     closed_is (ap length (mappings_join ls ms e) ∙ length-append (mappings_of ls) (mappings_of ms)) (total-join Rss ls ms e) (total-join Pss ls ms e) (total-join SwapPss ls ms e)
 
 pub figure-closed : (k : Key) (ls : List (List ℕ)) (c : Closed) → c ≡ closed_of ls → figure k c.totals ≡ total k ls
-figure-closed Rss ls c e = ap (λ (x : Closed). x.totals.rss) e
-figure-closed Pss ls c e = ap (λ (x : Closed). x.totals.pss) e
-figure-closed SwapPss ls c e = ap (λ (x : Closed). x.totals.swap_pss) e
+figure-closed k ls c e = rw e (by_key (λ k. figure k (closed_of ls).totals ≡ total k ls) refl refl refl k)
 
 -- Where two texts are measured, the first empty or ending in byte 10, their join is measured exactly when that keeps the caps, and then all figures add.
 abbrev pub JoinsAdd : Type 0
@@ -90,8 +85,8 @@ joins_add t u c d w e f =
     let j = lines_join t u w in
     let z : length (text_of (lines_of (t ++ u))) ≡ length t + length u = ap length (text_lines (t ++ u)) ∙ length-append t u in
     let a : (k : Key) → total k (lines_of (t ++ u)) ≡ figure k c.totals + figure k d.totals =
-    λ k. ap (total k) j ∙ total-join k T U s ∙ omega (arith, figure-closed k T c g.is, figure-closed k U d h.is) in
-    let b : closed_of (lines_of (t ++ u)) ≡ both c d = ap closed_of j ∙ closed_join T U s ∙ sym (ap (λ (x : Closed). both x (closed_of U)) g.is) ∙ sym (ap (λ (x : Closed). both c x) h.is) in (
+    λ k. rw j (omega (arith, total-join k T U s, figure-closed k T c g.is, figure-closed k U d h.is)) in
+    let b : closed_of (lines_of (t ++ u)) ≡ both c d = rw (j, g.is, h.is) (closed_join T U s) in (
       λ x y. let m = ((reading-measures false (t ++ u) x).0 y).1 in
           (record { fits = omega (arith, m.fits, z); light = λ k. omega (arith, m.light k, a k) }, m.is ∙ b),
       λ y. (reading-measures false (t ++ u) (both c d)).1 (

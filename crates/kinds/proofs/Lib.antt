@@ -1,4 +1,3 @@
-pub mod Names
 pub mod Colons
 pub mod Steps
 pub mod Measures

@@ -1,23 +1,25 @@
 -- Which texts are measured, and as what.
-use Rattle.std.proofs.Common.{◌≡◌, ℕ, ◌+◌, ◌≤◌, Bool, true, false, cond, List, [], ◌∷◌, length, Some, None, Ok, Option, Result, sym, refl, ap, ◌∙◌, arith, length-append}
-use Rattle.sources.specs.declared.fault.Refusal.{Refusal}
+use Rattle.std.proofs.Common.{◌≡◌, ℕ, ◌+◌, ◌≤◌, Bool, true, false, List, [], ◌∷◌, length, None, Ok, Err, Result, sym, refl, ap, ◌∙◌, arith, length-append}
+use Rattle.std.proofs.lemmas.Bool.{and_parts, not-true}
+use Rattle.sources.specs.declared.fault.Fault.{Fault}
 use Rattle.sources.specs.declared.kind.Break.TheVariants.{Refuses}
-use Rattle.sources.specs.Lines.{lines_of, text_of, long, walk, ending, course, reading}
-use Rattle.sources.specs.Faults.{at_line}
+use Rattle.sources.specs.Lines.{lines_of, text_of, long, walk, ending, course, reading, max_line, max_text}
+use Rattle.sources.specs.Faults.{at_line, and_then}
 use Rattle.sources.specs.Utf8.{is_utf8}
 use Rattle.kinds.specs.declared.sort.Key.{Key}
 use Rattle.kinds.specs.declared.sort.Key.TheVariants.{Rss, Pss, SwapPss}
 use Rattle.kinds.specs.declared.sort.Sort.{Sort}
-use Rattle.kinds.specs.declared.sort.Sort.TheVariants.{Mapping, BadMapping, Sets, Aside, BadAttribute}
+use Rattle.kinds.specs.declared.sort.Sort.TheVariants.{Mapping, Attribute}
 use Rattle.kinds.specs.declared.measure.Figures.{Figures}
 use Rattle.kinds.specs.declared.measure.Closed.{Closed}
+use Rattle.kinds.specs.declared.measure.Tally.{Tally}
 use Rattle.kinds.specs.declared.measure.State.{State}
 use Rattle.kinds.specs.declared.measure.State.TheVariants.{NoMapping, InMapping}
 use Rattle.kinds.specs.Sorts.{sort_of}
-use Rattle.kinds.specs.Measure.{none, sum_of, next, fault_of, shut, rules_at, measure_rules, fresh}
+use Rattle.kinds.specs.Measure.{none, first, closed_with, next, fault_of, rules_at, max_total, measure_rules, fresh}
 use Rattle.kinds.specs.Sums.{opens, sound, mappings_of, sum_over, total, figure, orderly, closed_of, Measured, Measures}
-use Rattle.sources.proofs.Walks.{ends, no, no_broke, judged-ok, judged-on}
-use Rattle.kinds.proofs.Steps.{rest, total-opens, count_opens, rest_over, count_over, figure-none, none-some, sum_some, sum_fits, Stepped, step_sound, step_fine, some_byte}
+use Rattle.sources.proofs.Walks.{ends, judged-ok, judged-on}
+use Rattle.kinds.proofs.Steps.{rest, plus, total-opens, count_opens, rest_over, count_over, figure-none, sum_some, sum_fits, Stepped, step_sound, step_fine, some_byte}
 
 text_cons : (l : List ℕ) (ls : List (List ℕ)) → length (text_of (l ∷ ls)) ≡ length l + length (text_of ls)
 unfolding text_of
@@ -37,139 +39,123 @@ closed_over = refl
 
 -- the parts of a good line
 pub record Good (l : List ℕ) (ls : List (List ℕ)) : Type 0 where
-  pub short : long 4096 l ≡ false
+  pub short : long max_line l ≡ false
   pub text : is_utf8 l ≡ true
   pub fine : sound (sort_of l) ≡ true
   pub later : orderly ls ≡ true
 
-good-from : (a b c d : Bool) → cond a false (cond b (cond c d false) false) ≡ true → (a ≡ false) × (b ≡ true) × (c ≡ true) × (d ≡ true)
-good-from true b c d e = let z : ◌≡◌ {A = ℕ} 0 1 = cc in absurd (omega arith)
-good-from false false c d e = let z : ◌≡◌ {A = ℕ} 0 1 = cc in absurd (omega arith)
-good-from false true false d e = let z : ◌≡◌ {A = ℕ} 0 1 = cc in absurd (omega arith)
-good-from false true true d e = (refl, refl, refl, e)
-
 pub good-parts : (l : List ℕ) (ls : List (List ℕ)) → orderly (l ∷ ls) ≡ true → Good l ls
 unfolding orderly
-good-parts l ls e = let g = good-from (long 4096 l) (is_utf8 l) (sound (sort_of l)) (orderly ls) e in record { short = g.0; text = g.1; fine = g.2; later = g.3 }
+good-parts l ls e =
+    let p = and_parts _ (orderly ls) e in
+    let q = and_parts _ (sound (sort_of l)) p.0 in
+    let r = and_parts _ (is_utf8 l) q.0 in
+    record { short = not-true _ r.0; text = r.1; fine = q.1; later = p.1 }
 
 pub good-all : (l : List ℕ) (ls : List (List ℕ)) → Good l ls → orderly (l ∷ ls) ≡ true
 unfolding orderly
 good-all l ls g = rw (g.short, g.text, g.fine, g.later)
 
--- what a measure comes to from n mappings, the totals t and the figures o of the mapping that is open
-abbrev reached : ℕ → Figures → Figures → List (List ℕ) → Closed
-reached n t o ls = record { mappings = n + length (mappings_of ls); totals = record { rss = t.rss + rest Rss o.rss ls; pss = t.pss + rest Pss o.pss ls; swap_pss = t.swap_pss + rest SwapPss o.swap_pss ls } }
+-- what a measure comes to from the tally of a mapping that is open
+abbrev reached : Tally → List (List ℕ) → Closed
+reached t ls = record {
+  mappings = t.mappings + length (mappings_of ls);
+  totals = record { rss = t.totals.rss + rest Rss t.last.rss ls; pss = t.totals.pss + rest Pss t.last.pss ls; swap_pss = t.totals.swap_pss + rest SwapPss t.last.swap_pss ls };
+}
 
 pub closed_is : {a r p s a' r' p' s' : ℕ} → a ≡ a' → r ≡ r' → p ≡ p' → s ≡ s' →
     ◌≡◌ {A = Closed} (record { mappings = a; totals = record { rss = r; pss = p; swap_pss = s } }) (record { mappings = a'; totals = record { rss = r'; pss = p'; swap_pss = s' } })
 closed_is {a} {r} {p} {s} {a'} {r'} {p'} {s'} e f g h = rw (e, f, g, h)
 
-record Went (cap most s n : ℕ) (t o : Figures) (ls : List (List ℕ)) (c : Closed) : Type 0 where
+record Went (cap most s : ℕ) (t : Tally) (ls : List (List ℕ)) (c : Closed) : Type 0 where
   good : orderly ls ≡ true
   fits : s + length (text_of ls) ≤ most
-  light : (k : Key) → figure k t + rest k (figure k o) ls ≤ cap
-  is : c ≡ reached n t o ls
+  light : (k : Key) → figure k t.totals + rest k (figure k t.last) ls ≤ cap
+  is : c ≡ reached t ls
 
-reached-step : (l : List ℕ) (ls : List (List ℕ)) (n : ℕ) (t o : Figures) (m : State) (s : Stepped l n t o m) → reached s.n' s.t' s.o' ls ≡ reached n t o (l ∷ ls)
-reached-step l ls n t o m s = closed_is (s.count ls) (s.sums Rss ls) (s.sums Pss ls) (s.sums SwapPss ls)
+reached-step : (l : List ℕ) (ls : List (List ℕ)) (t : Tally) (m : State) (s : Stepped l t m) → reached s.to ls ≡ reached t (l ∷ ls)
+reached-step l ls t m s = closed_is (s.count ls) (s.sums Rss ls) (s.sums Pss ls) (s.sums SwapPss ls)
 
-ok_is : {C : Type 0} (x y : C) → ◌≡◌ {A = Result C Refusal} (Ok x) (Ok y) → x ≡ y
-ok_is {C} x y e = cc
+reached_over : (t : Tally) → reached t [] ≡ record { mappings = t.mappings; totals = plus t.totals t.last }
+reached_over t = closed_is (omega (arith, count_over)) (omega (arith, rest_over Rss t.last.rss)) (omega (arith, rest_over Pss t.last.pss)) (omega (arith, rest_over SwapPss t.last.swap_pss))
 
-shut_ok : (cap most j s n : ℕ) (t o : Figures) (x : Option Figures) (c : Closed) → sum_of cap t o ≡ x → s ≤ most → at_line j (shut n x) ≡ Ok c → Went cap most s n t o [] c
+shut_ok : (cap most j s : ℕ) (t : Tally) (x : Result Figures Fault) (c : Closed) → closed_with cap t ≡ x → s ≤ most → at_line j (and_then x (λ u. Ok (record { mappings = t.mappings; totals = u }))) ≡ Ok c → Went cap most s t [] c
 unfolding orderly
-shut_ok cap most j s n t o None c q h e = no _ c e
-shut_ok cap most j s n t o (Some y) c q h e =
-    let u = sum_some cap t o y q in
-    let f : (k : Key) → figure k t + rest k (figure k o) [] ≡ figure k t + figure k o = λ k. ap (λ (i : ℕ). figure k t + i) (rest_over k (figure k o)) in
-    record {
-      good = refl;
-      fits = omega (arith, text_over);
-      light = λ k. omega (arith, u.0 k, f k);
-      is = sym (ok_is _ c e) ∙ ap (λ (x : Figures). record { mappings = n; totals = x }) u.1 ∙ closed_is (omega (arith, count_over)) (sym (f Rss)) (sym (f Pss)) (sym (f SwapPss));
-    }
+shut_ok cap most j s t (Err g) c q h e = cc
+shut_ok cap most j s t (Ok y) c q h e =
+    let u = sum_some cap t.totals t.last y q in
+    record { good = refl; fits = omega (arith, text_over); light = λ k. omega (arith, u.0 k, rest_over k (figure k t.last)); is = cc (u.1, reached_over t) }
 
-end_ok : (cap most j s n : ℕ) (t o : Figures) (broken : Bool) (c : Closed) → s ≤ most → ends (rules_at cap) (ending Refuses broken j, InMapping n t o, []) ≡ Ok c → (broken ≡ false) × Went cap most s n t o [] c
-end_ok cap most j s n t o true c h e = no_broke (rules_at cap) j (InMapping n t o) [] c refl e
-end_ok cap most j s n t o false c h e = (refl, shut_ok cap most j s n t o (sum_of cap t o) c refl h e)
+end_ok : (cap most j s : ℕ) (t : Tally) (broken : Bool) (c : Closed) → s ≤ most → ends (rules_at cap) (ending Refuses broken j, InMapping t, []) ≡ Ok c → (broken ≡ false) × Went cap most s t [] c
+end_ok cap most j s t true c h e = cc
+end_ok cap most j s t false c h e = (refl, shut_ok cap most j s t (closed_with cap t) c refl h e)
 
-sounds : (cap most j s n : ℕ) (t o : Figures) (broken : Bool) (ls : List (List ℕ)) (c : Closed) → s ≤ most → n ≤ s → most ≤ 4294967295 →
-    ends (rules_at cap) (walk 4096 most (rules_at cap) broken j s (InMapping n t o) ls) ≡ Ok c → (broken ≡ false) × Went cap most s n t o ls c
+sounds : (cap most j s : ℕ) (t : Tally) (broken : Bool) (ls : List (List ℕ)) (c : Closed) → s ≤ most → t.mappings ≤ s → most ≤ 4294967295 →
+    ends (rules_at cap) (walk max_line most (rules_at cap) broken j s (InMapping t) ls) ≡ Ok c → (broken ≡ false) × Went cap most s t ls c
 unfolding walk
-sounds cap most j s n t o broken [] c h b w e = end_ok cap most j s n t o broken c h e
-sounds cap most j s n t o broken (l ∷ ls) c h b w e =
-    let q = judged-ok 4096 most (rules_at cap) broken j s (InMapping n t o) l (text_of ls) _ c refl e in
+sounds cap most j s t broken [] c h b w e = end_ok cap most j s t broken c h e
+sounds cap most j s t broken (l ∷ ls) c h b w e =
+    let q = judged-ok max_line most (rules_at cap) broken j s (InMapping t) l (text_of ls) _ c refl e in
     let p = q.0 in
-    let z = step_sound cap l n t o (sort_of l) refl (omega (arith, p.fits)) p.fine in
+    let z = step_sound cap l t (sort_of l) refl (omega (arith, p.fits)) p.fine in
     let y = z.0 in
-    let i = sounds cap most (j + 1) (s + length l) y.n' y.t' y.o' broken ls c p.fits (omega (arith, y.bound)) w
-    (ap (λ (m : State). ends (rules_at cap) (walk 4096 most (rules_at cap) broken (j + 1) (s + length l) m ls)) (sym y.goes) ∙ q.1) in
+    let i = sounds cap most (j + 1) (s + length l) y.to broken ls c p.fits (omega (arith, y.bound)) w (rw y.goes at q.1) in
     let g = i.1 in (
       i.0,
       record {
         good = good-all l ls (record { short = p.short; text = p.text; fine = z.1; later = g.good });
         fits = omega (arith, g.fits, text_cons l ls);
         light = λ k. omega (arith, g.light k, y.sums k ls);
-        is = g.is ∙ reached-step l ls n t o _ y;
+        is = g.is ∙ reached-step l ls t _ y;
       },
     )
 
-reaches : (cap most j s n : ℕ) (t o : Figures) (ls : List (List ℕ)) (c : Closed) → n ≤ s → most ≤ 4294967295 →
-    Went cap most s n t o ls c → ends (rules_at cap) (walk 4096 most (rules_at cap) false j s (InMapping n t o) ls) ≡ Ok c
+reaches : (cap most j s : ℕ) (t : Tally) (ls : List (List ℕ)) (c : Closed) → t.mappings ≤ s → most ≤ 4294967295 →
+    Went cap most s t ls c → ends (rules_at cap) (walk max_line most (rules_at cap) false j s (InMapping t) ls) ≡ Ok c
 unfolding walk
-reaches cap most j s n t o [] c b w g =
-    let f : (k : Key) → figure k t + rest k (figure k o) [] ≡ figure k t + figure k o = λ k. ap (λ (i : ℕ). figure k t + i) (rest_over k (figure k o)) in
-    ap (λ (x : Option Figures). at_line j (shut n x)) (sum_fits cap t o (λ k. omega (arith, g.light k, f k)))
-    ∙ ap (λ (x : Closed). Ok x) (closed_is (omega (arith, count_over)) (sym (f Rss)) (sym (f Pss)) (sym (f SwapPss)) ∙ sym g.is)
-reaches cap most j s n t o (l ∷ ls) c b w g =
+reaches cap most j s t [] c b w g =
+    rw (sum_fits cap t.totals t.last (λ k. omega (arith, g.light k, rest_over k (figure k t.last)))) (cc (g.is, reached_over t))
+reaches cap most j s t (l ∷ ls) c b w g =
     let d = good-parts l ls g.good in
     let u : s + length l ≤ most = omega (arith, g.fits, text_cons l ls) in
-    let f = step_fine cap l ls n t o (sort_of l) refl d.fine g.light in
-    let y = (step_sound cap l n t o (sort_of l) refl (omega arith) f).0 in
-    ap (ends (rules_at cap)) (judged-on 4096 most (rules_at cap) false j s (InMapping n t o) l (text_of ls) _ (record { short = d.short; fits = u; stands = refl; text = d.text; fine = f }))
-    ∙ ap (λ (m : State). ends (rules_at cap) (walk 4096 most (rules_at cap) false (j + 1) (s + length l) m ls)) y.goes
-    ∙ reaches cap most (j + 1) (s + length l) y.n' y.t' y.o' ls c (omega (arith, y.bound)) w
-    (record { good = d.later; fits = omega (arith, g.fits, text_cons l ls); light = λ k. omega (arith, g.light k, y.sums k ls); is = g.is ∙ sym (reached-step l ls n t o _ y) })
+    let f = step_fine cap l ls t (sort_of l) refl d.fine g.light in
+    let y = (step_sound cap l t (sort_of l) refl (omega arith) f).0 in
+    let i = reaches cap most (j + 1) (s + length l) y.to ls c (omega (arith, y.bound)) w
+    (record { good = d.later; fits = omega (arith, g.fits, text_cons l ls); light = λ k. omega (arith, g.light k, y.sums k ls); is = g.is ∙ sym (reached-step l ls t _ y) }) in
+    rw (judged-on max_line most (rules_at cap) false j s (InMapping t) l (text_of ls) _ (record { short = d.short; fits = u; stands = refl; text = d.text; fine = f }), y.goes) i
 
--- only a mapping line is accepted first
-first_is : (cap : ℕ) (x : Sort) → fault_of (next cap NoMapping x) ≡ None → x ≡ Mapping
-first_is cap Mapping f = refl
-first_is cap (BadMapping g) f = none-some _ (sym f)
-first_is cap (Sets k v) f = none-some _ (sym f)
-first_is cap Aside f = none-some _ (sym f)
-first_is cap (BadAttribute g) f = none-some _ (sym f)
+-- only a good mapping line is accepted first
+first_is : (cap : ℕ) (x : Sort) → fault_of (next cap NoMapping x) ≡ None → x ≡ Mapping (Ok tt)
+first_is cap (Mapping (Ok u)) f = refl
+first_is cap (Mapping (Err g)) f = cc
+first_is cap (Attribute a) f = cc
 
-first_of : (x : Sort) → opens x ≡ true → sound x ≡ true → x ≡ Mapping
-first_of Mapping a b = refl
-first_of (BadMapping g) a b = let z : ◌≡◌ {A = ℕ} 0 1 = cc in absurd (omega arith)
-first_of (Sets k v) a b = let z : ◌≡◌ {A = ℕ} 0 1 = cc in absurd (omega arith)
-first_of Aside a b = let z : ◌≡◌ {A = ℕ} 0 1 = cc in absurd (omega arith)
-first_of (BadAttribute g) a b = let z : ◌≡◌ {A = ℕ} 0 1 = cc in absurd (omega arith)
+first_of : (x : Sort) → opens x ≡ true → sound x ≡ true → x ≡ Mapping (Ok tt)
+first_of (Mapping (Ok u)) a b = refl
+first_of (Mapping (Err g)) a b = cc
+first_of (Attribute r) a b = cc
 
 over_ok : (cap most : ℕ) (broken : Bool) (c : Closed) → ends (rules_at cap) (ending Refuses broken 0, NoMapping, []) ≡ Ok c → (broken ≡ false) × Measured cap most [] c
 unfolding orderly
-over_ok cap most true c e = no_broke (rules_at cap) 0 NoMapping [] c refl e
-over_ok cap most false c e = (refl, record { begins = refl; good = refl; fits = omega (arith, text_over); light = λ k. omega (arith, total-over k); is = sym (ok_is _ c e) ∙ sym closed_over })
+over_ok cap most true c e = cc
+over_ok cap most false c e = (refl, record { begins = refl; good = refl; fits = omega (arith, text_over); light = λ k. omega (arith, total-over k); is = cc closed_over })
 
 first_sum : (k : Key) (l : List ℕ) (ls : List (List ℕ)) → opens (sort_of l) ≡ true → figure k none + rest k (figure k none) ls ≡ total k (l ∷ ls)
-first_sum k l ls e =
-    let a : figure k none + rest k (figure k none) ls ≡ rest k 0 ls = ap (λ (v : ℕ). v + rest k v ls) (figure-none k) ∙ omega arith in
-    a ∙ sym (total-opens k l ls e)
+first_sum k l ls e = rw (figure-none k) (omega (arith, total-opens k l ls e))
 
-first_closed : (l : List ℕ) (ls : List (List ℕ)) → opens (sort_of l) ≡ true → reached 1 none none ls ≡ closed_of (l ∷ ls)
+first_closed : (l : List ℕ) (ls : List (List ℕ)) → opens (sort_of l) ≡ true → reached first ls ≡ closed_of (l ∷ ls)
 first_closed l ls e = closed_is (sym (count_opens l ls e)) (first_sum Rss l ls e) (first_sum Pss l ls e) (first_sum SwapPss l ls e)
 
 pub measured : (cap most : ℕ) (broken : Bool) (ls : List (List ℕ)) (c : Closed) → most ≤ 4294967295 →
-    ends (rules_at cap) (walk 4096 most (rules_at cap) broken 0 0 NoMapping ls) ≡ Ok c → (broken ≡ false) × Measured cap most ls c
+    ends (rules_at cap) (walk max_line most (rules_at cap) broken 0 0 NoMapping ls) ≡ Ok c → (broken ≡ false) × Measured cap most ls c
 unfolding walk
 measured cap most broken [] c w e = over_ok cap most broken c e
 measured cap most broken (l ∷ ls) c w e =
-    let q = judged-ok 4096 most (rules_at cap) broken 0 0 NoMapping l (text_of ls) _ c refl e in
+    let q = judged-ok max_line most (rules_at cap) broken 0 0 NoMapping l (text_of ls) _ c refl e in
     let p = q.0 in
     let x = first_is cap (sort_of l) p.fine in
     let y : opens (sort_of l) ≡ true = ap opens x in
-    let i = sounds cap most 1 (0 + length l) 1 none none broken ls c p.fits (omega (arith, some_byte l x)) w
-    (ap (λ (s : Sort). ends (rules_at cap) (walk 4096 most (rules_at cap) broken 1 (0 + length l) (next cap NoMapping s) ls)) (sym x) ∙ q.1) in
+    let i = sounds cap most 1 (0 + length l) first broken ls c p.fits (omega (arith, some_byte l x)) w (rw x at q.1) in
     let g = i.1 in (
       i.0,
       record {
@@ -181,23 +167,22 @@ measured cap most broken (l ∷ ls) c w e =
       },
     )
 
-pub measures : (cap most : ℕ) (ls : List (List ℕ)) (c : Closed) → most ≤ 4294967295 → Measured cap most ls c → ends (rules_at cap) (walk 4096 most (rules_at cap) false 0 0 NoMapping ls) ≡ Ok c
+pub measures : (cap most : ℕ) (ls : List (List ℕ)) (c : Closed) → most ≤ 4294967295 → Measured cap most ls c → ends (rules_at cap) (walk max_line most (rules_at cap) false 0 0 NoMapping ls) ≡ Ok c
 unfolding walk
-measures cap most [] c w g = ap (λ (x : Closed). Ok x) (sym closed_over ∙ sym g.is)
+measures cap most [] c w g = cc (g.is, closed_over)
 measures cap most (l ∷ ls) c w g =
     let d = good-parts l ls g.good in
     let x = first_of (sort_of l) g.begins d.fine in
-    let f : fault_of (next cap NoMapping (sort_of l)) ≡ None = ap (λ (s : Sort). fault_of (next cap NoMapping s)) x in
+    let f : fault_of (next cap NoMapping (sort_of l)) ≡ None = rw x in
     let y = g.begins in
-    ap (ends (rules_at cap)) (judged-on 4096 most (rules_at cap) false 0 0 NoMapping l (text_of ls) _ (record { short = d.short; fits = omega (arith, g.fits, text_cons l ls); stands = refl; text = d.text; fine = f }))
-    ∙ ap (λ (s : Sort). ends (rules_at cap) (walk 4096 most (rules_at cap) false 1 (0 + length l) (next cap NoMapping s) ls)) x
-    ∙ reaches cap most 1 (0 + length l) 1 none none ls c (omega (arith, some_byte l x)) w
-    (record { good = d.later; fits = omega (arith, g.fits, text_cons l ls); light = λ k. omega (arith, g.light k, first_sum k l ls y); is = g.is ∙ sym (first_closed l ls y) })
+    let i = reaches cap most 1 (0 + length l) first ls c (omega (arith, some_byte l x)) w
+    (record { good = d.later; fits = omega (arith, g.fits, text_cons l ls); light = λ k. omega (arith, g.light k, first_sum k l ls y); is = g.is ∙ sym (first_closed l ls y) }) in
+    rw (judged-on max_line most (rules_at cap) false 0 0 NoMapping l (text_of ls) _ (record { short = d.short; fits = omega (arith, g.fits, text_cons l ls); stands = refl; text = d.text; fine = f }), x) i
 
 -- a reading is accepted where its text is measured, and nowhere else
 pub reading-measures : (broken : Bool) (text : List ℕ) → Measures broken text (reading measure_rules broken fresh text).0
 unfolding reading course
 reading-measures broken text c = (
-  λ e. measured 72057594037927936 268435456 broken (lines_of text) c (omega arith) e,
-  λ g. ap (λ (t : Bool). ends measure_rules (walk 4096 268435456 measure_rules t 0 0 NoMapping (lines_of text))) g.0 ∙ measures 72057594037927936 268435456 (lines_of text) c (omega arith) g.1,
+  λ e. measured max_total max_text broken (lines_of text) c (omega arith) e,
+  λ g. rw (g.0) (measures max_total max_text (lines_of text) c (omega arith) g.1),
 )

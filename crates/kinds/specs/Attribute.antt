@@ -1,7 +1,8 @@
 -- An attribute's line, as "Rss: 4 kB": words between ASCII white bytes.
 use Rattle.std.specs.Prelude.{ℕ, ◌*◌, ◌^◌, cond, List, [], ◌∷◌, reverse, Some, None, Ok, Err, Option, Result, ◌==◌, nat_lt}
+use Rattle.std.specs.Option.{option_map}
+use Rattle.std.specs.Result.{result_map_both}
 use Rattle.sources.specs.declared.fault.Fault.{Fault}
-use Rattle.sources.specs.declared.fault.NumberFault.{NumberFault}
 use Rattle.sources.specs.declared.number.Radix.TheVariants.{Decimal}
 use Rattle.sources.specs.declared.reason.Reason.TheVariants.{Value, Scale}
 use Rattle.sources.specs.Faults.{fault, and_then}
@@ -22,13 +23,9 @@ pub record Entry : Type 0 where
   pub key : List ℕ
   pub amount : ℕ
 
-abbrev pub valued : Result ℕ NumberFault → Result ℕ Fault
-valued (Ok n) = Ok n
-valued (Err f) = Err (fault Value)
-
 -- The second word is a number.
 abbrev pub amount_of : List ℕ → Result ℕ Fault
-amount_of bs = valued (unsigned 64 Decimal bs)
+amount_of bs = result_map_both (λ n. n) (λ f. fault Value) (unsigned 64 Decimal bs)
 
 -- The number, times 1024 where a word follows it.
 abbrev pub scaled : ℕ → List ℕ → Result ℕ Fault
@@ -48,6 +45,4 @@ abbrev pub told_entry : Attribute → Entry
 told_entry a = record { key = a.key.now; amount = a.amount }
 
 abbrev pub seen_entry : Result (Option Attribute) Fault → Result (Option Entry) Fault
-seen_entry (Ok None) = Ok None
-seen_entry (Ok (Some a)) = Ok (Some (told_entry a))
-seen_entry (Err e) = Err e
+seen_entry r = result_map_both (option_map told_entry) (λ f. f) r

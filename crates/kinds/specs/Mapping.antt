@@ -1,7 +1,8 @@
 -- A mapping's line: six pieces at single spaces, the sixth holding the rest; then each is read in turn.
-use Rattle.std.specs.Prelude.{ℕ, List, ℤ, Ok, Err, Result}
+use Rattle.std.specs.Prelude.{ℕ, List, ℤ, Ok, Result}
 use Rattle.std.specs.Borrow.{Bor}
 use Rattle.std.specs.Option.{ok_or}
+use Rattle.std.specs.Result.{result_map_both}
 use Rattle.sources.specs.declared.fault.Fault.{Fault}
 use Rattle.sources.specs.declared.fault.NumberFault.{NumberFault}
 use Rattle.sources.specs.declared.number.Radix.TheVariants.{Decimal, Hexadecimal}
@@ -26,16 +27,14 @@ abbrev pub told_map : MemoryMap → Mapping
 told_map m = record { address = m.address; perms = m.perms.bits; offset = m.offset; dev = m.dev; inode = m.inode; pathname = told m.pathname }
 
 abbrev pub seen_map : Result MemoryMap Fault → Result Mapping Fault
-seen_map (Ok m) = Ok (told_map m)
-seen_map (Err e) = Err e
+seen_map r = result_map_both told_map (λ f. f) r
 
 -- Up to the first space, and what follows it.
 abbrev pub piece : List ℕ → Result (List ℕ × List ℕ) Fault
 piece bs = ok_or (cut_at 32 bs) (fault Short)
 
 abbrev pub seen_piece : Result (Bor (List ℕ) × Bor (List ℕ)) Fault → Result (List ℕ × List ℕ) Fault
-seen_piece (Ok p) = Ok (bytes_of_2 p)
-seen_piece (Err e) = Err e
+seen_piece r = result_map_both bytes_of_2 (λ f. f) r
 
 -- Two numbers with the character `at` between them; what stands behind a second one is ignored.
 abbrev pub pair_of : {X : Type 0} → (List ℕ → Result X NumberFault) → ℕ → List ℕ → Result (X × X) Fault

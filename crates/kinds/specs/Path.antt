@@ -1,9 +1,9 @@
 -- What a mapping is of, by the bytes of its path.
-use Rattle.std.specs.Prelude.{ℕ, cond, not, ◌&&◌, List, [], length, ℤ, None, Ok, Err, codes, Option, Result, ◌==◌, slice_index}
+use Rattle.std.specs.Prelude.{ℕ, cond, not, ◌&&◌, List, [], length, ℤ, None, Ok, codes, Option, Result, ◌==◌, slice_index}
 use Rattle.std.specs.Int.{w32}
 use Rattle.std.proofs.Common.{to_z}
 use Rattle.std.specs.Option.{option_map, ok_or, unwrap_or}
-use Rattle.std.specs.Result.{result_ok}
+use Rattle.std.specs.Result.{result_ok, result_map_both}
 use Rattle.std.specs.Str.{bytes_eq}
 use Rattle.sources.specs.declared.fault.Fault.{Fault}
 use Rattle.sources.specs.declared.number.Radix.TheVariants.{Decimal, Hexadecimal}
@@ -40,8 +40,7 @@ told (code.Other x) = other x.now
 
 -- The same of a reading that may be refused.
 abbrev pub seen : Result MMapPath Fault → Result Named Fault
-seen (Ok p) = Ok (told p)
-seen (Err e) = Err e
+seen r = result_map_both told (λ f. f) r
 
 -- What follows "[stack:": a number up to the next colon, before a last "]".
 abbrev pub thread_of : List ℕ → Result Named Fault

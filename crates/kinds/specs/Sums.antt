@@ -1,12 +1,13 @@
 -- The mappings of a text, what they add up to, and which texts are measured.
-use Rattle.std.specs.Prelude.{◌≡◌, ℕ, ◌+◌, ◌≤◌, Bool, true, false, cond, List, [], ◌∷◌, ◌++◌, length, Ok, Result}
+use Rattle.std.specs.Prelude.{◌≡◌, ℕ, ◌+◌, ◌≤◌, Bool, true, false, cond, not, ◌&&◌, List, [], ◌∷◌, ◌++◌, length, Some, Ok, Result}
+use Rattle.std.specs.Result.{is_ok}
 use Rattle.sources.specs.Lines.{lines_of, text_of, long, ended, reading, max_line, max_text}
 use Rattle.sources.specs.Utf8.{is_utf8}
 use Rattle.sources.specs.declared.fault.Refusal.{Refusal}
 use Rattle.kinds.specs.declared.sort.Key.{Key}
 use Rattle.kinds.specs.declared.sort.Key.TheVariants.{Rss, Pss, SwapPss}
 use Rattle.kinds.specs.declared.sort.Sort.{Sort}
-use Rattle.kinds.specs.declared.sort.Sort.TheVariants.{Mapping, BadMapping, Sets, Aside, BadAttribute}
+use Rattle.kinds.specs.declared.sort.Sort.TheVariants.{Mapping, Attribute}
 use Rattle.kinds.specs.declared.measure.Figures.{Figures}
 use Rattle.kinds.specs.declared.measure.Closed.{Closed}
 use Rattle.kinds.specs.Sorts.{sort_of}
@@ -15,19 +16,13 @@ use Rattle.sources.specs.Editions.{Edition, Same}
 
 -- Whether a line opens a mapping.
 abbrev pub opens : Sort → Bool
-opens Mapping = true
-opens (BadMapping f) = true
-opens (Sets k v) = false
-opens Aside = false
-opens (BadAttribute f) = false
+opens (Mapping head) = true
+opens (Attribute a) = false
 
 -- Whether a line is good where a mapping is open.
 abbrev pub sound : Sort → Bool
-sound Mapping = true
-sound (BadMapping f) = false
-sound (Sets k v) = true
-sound Aside = true
-sound (BadAttribute f) = false
+sound (Mapping head) = is_ok head
+sound (Attribute a) = is_ok a
 
 -- The lines before the next mapping line.
 unfoldable pub body : List (List ℕ) → List (List ℕ)
@@ -42,22 +37,14 @@ mappings_of (l ∷ ls) = cond (opens (sort_of l)) (body ls ∷ mappings_of ls) (
 -- Whether two keys are the same.
 abbrev pub same : Key → Key → Bool
 same Rss Rss = true
-same Rss Pss = false
-same Rss SwapPss = false
-same Pss Rss = false
 same Pss Pss = true
-same Pss SwapPss = false
-same SwapPss Rss = false
-same SwapPss Pss = false
 same SwapPss SwapPss = true
+same _ _ = false
 
 -- The value of a key after a line, where it was v.
 abbrev pub newest : Key → ℕ → Sort → ℕ
-newest k v (Sets j w) = cond (same k j) w v
-newest k v Mapping = v
-newest k v (BadMapping f) = v
-newest k v Aside = v
-newest k v (BadAttribute f) = v
+newest k v (Attribute (Ok (Some s))) = cond (same k s.key) s.amount v
+newest k v _ = v
 
 -- The last value of a key in lines; v, where none sets it.
 unfoldable pub last_of : Key → ℕ → List (List ℕ) → ℕ
@@ -76,7 +63,7 @@ total k ls = sum_over k (mappings_of ls)
 -- Whether all lines are UTF-8, none too long, and each good.
 unfoldable pub orderly : List (List ℕ) → Bool
 orderly [] = true
-orderly (l ∷ ls) = cond (long max_line l) false (cond (is_utf8 l) (cond (sound (sort_of l)) (orderly ls) false) false)
+orderly (l ∷ ls) = not (long max_line l) && is_utf8 l && sound (sort_of l) && orderly ls
 
 -- Whether the first line, if any, opens a mapping.
 abbrev pub starts : List (List ℕ) → Bool

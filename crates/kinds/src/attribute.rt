@@ -3,7 +3,6 @@ ghost use Rattle.kinds.specs.Attribute.{bare as bare_of, entry_of, scaled as sca
 
 use sources::fault::Fault;
 use sources::number::{FromStrRadix, Radix};
-use sources::pieces::shorn;
 use sources::reason::Reason;
 use sources::words::next_word;
 
@@ -18,20 +17,13 @@ pub struct Attribute<'a> {
 fn bare(word: &str) -> &str
     ensures { result.now ≡ bare_of word.now }
 {
-    let mut rest = word;
-    while let Some(front) = shorn(rest, ":") {
-        rest = front;
-    }
-    rest
+    word.trim_end_matches(':')
 }
 
 fn amount(word: &str) -> Result<u64, Fault>
     ensures { result ≡ amount_of word.now }
 {
-    match <u64 as sources::number::FromStrRadix>::from_str_radix(word, Radix::Decimal) {
-        Ok(n) => Ok(n),
-        Err(_) => Err(Fault::new(Reason::Value)),
-    }
+    FromStrRadix::from_str_radix(word, Radix::Decimal).map_err(|_| Fault::new(Reason::Value))
 }
 
 // The number, times 1024 where a word follows it.
@@ -55,8 +47,7 @@ impl<'a> Attribute<'a> {
         let Some((value, rest)) = next_word(rest) else {
             return Ok(None);
         };
-        let n = amount(value)?;
-        let amount = scaled(n, rest)?;
+        let amount = scaled(amount(value)?, rest)?;
         Ok(Some(Attribute {
             key: bare(key),
             amount,

@@ -1,5 +1,5 @@
 ghost use Rattle.std.specs.Prelude.{◌≡◌};
-ghost use Rattle.kinds.specs.Mapping.{mapping_of, pair_of, seen_map};
+ghost use Rattle.kinds.specs.Mapping.{mapping_of, pair_of, piece as piece_of, seen_map, seen_piece};
 
 use crate::path::MMapPath;
 use crate::perms::MMPermissions;
@@ -35,7 +35,7 @@ fn split_into_num<T: FromStrRadix + Drop>(
 
 // Up to the first space, and what follows it.
 fn piece(text: &str) -> Result<(&str, &str), Fault>
-    ensures { Rattle.kinds.specs.Mapping.seen_piece result ≡ Rattle.kinds.specs.Mapping.piece text.now }
+    ensures { seen_piece result ≡ piece_of text.now }
 {
     cut(text, ' ').ok_or(Fault::new(Reason::Short))
 }
@@ -52,9 +52,9 @@ impl<'a> MemoryMap<'a> {
         Ok(MemoryMap {
             address: split_into_num(address, '-', Radix::Hexadecimal)?,
             perms: MMPermissions::from_letters(perms),
-            offset: <u64 as FromStrRadix>::from_str_radix(offset, Radix::Hexadecimal)?,
+            offset: FromStrRadix::from_str_radix(offset, Radix::Hexadecimal)?,
             dev: split_into_num(dev, ':', Radix::Hexadecimal)?,
-            inode: <u64 as FromStrRadix>::from_str_radix(inode, Radix::Decimal)?,
+            inode: FromStrRadix::from_str_radix(inode, Radix::Decimal)?,
             pathname: MMapPath::from(path)?,
         })
     }

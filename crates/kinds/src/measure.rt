@@ -1,12 +1,12 @@
 ghost use Rattle.std.specs.Prelude.{◌≡◌, ◌+◌};
-ghost use Rattle.kinds.specs.Measure.{fresh, next, measure_rules, has_begun, is_foreign, sum_of, set_to};
+ghost use Rattle.kinds.specs.Measure.{fresh, next, measure_rules, has_begun, is_foreign, within, sum_of, set_to, closed_with, opened};
 ghost use Rattle.kinds.specs.MeasureLaws.{refusal_stays, foreign_aside, begins_with_mapping};
 ghost use Rattle.kinds.specs.Measured.{recording_of, join_of};
 ghost use Rattle.kinds.specs.Sums.{Measures, SameInEditions, AddsOverJoins};
 ghost use Rattle.kinds.specs.declared.measure.State.{State as Standing};
 ghost use Rattle.sources.specs.Lines.{reading};
 
-use crate::sort::{Key, Sort, sort_of};
+use crate::sort::{Key, Setting, Sort, sort_of};
 use sources::drive::read;
 use sources::fault::{Fault, Refusal};
 use sources::join::Join;
@@ -15,27 +15,30 @@ use sources::reason::Reason;
 use sources::source::Source;
 use sources::spool::Spool;
 
-// The most that one total may be, 2 to the 56th.
+// The most that one total may be, 2 to the 56th. It is passed on as `cap`, so that no proof opens so large a number.
 const CAP: u64 = 72057594037927936;
 
 // One figure for each of the keys, in bytes.
-#[derive(Clone, Copy, PartialEq, Eq, Debug)]
+#[derive(Clone, Copy, PartialEq, Eq, Debug, Default)]
 pub struct Figures {
     pub rss: u64,
     pub pss: u64,
     pub swap_pss: u64,
 }
 
-// Where an open measure stands.
+// The mappings so far: how many there are with the open one, the totals of those that are closed, and the figures of the open one.
+#[derive(Clone, Copy, Default)]
+pub struct Tally {
+    mappings: u32,
+    totals: Figures,
+    last: Figures,
+}
+
+// Where an open measure stands. It is no Result, by a rule of the project: a measure matches its state together with the sort of line that arrives.
 #[derive(Clone, Copy)]
 pub enum State {
     NoMapping,
-    // how many mappings there are with the open one, the totals of those that are closed, and the figures of the open one
-    InMapping {
-        mappings: u32,
-        totals: Figures,
-        last: Figures,
-    },
+    InMapping(Tally),
     Refused(Fault),
 }
 
@@ -66,48 +69,64 @@ impl Closed {
     }
 }
 
-// The sum of two figures, where it is at most `cap`.
-fn sum(a: u64, b: u64, cap: u64) -> Option<u64>
-    ensures { result ≡ Rattle.kinds.specs.Measure.within cap (a + b) }
+// The sum of two figures; one above `cap` is too heavy.
+fn sum(a: u64, b: u64, cap: u64) -> Result<u64, Fault>
+    ensures { result ≡ within cap (a + b) }
 {
-    match a.checked_add(b) {
-        Some(c) if c <= cap => Some(c),
-        _ => None,
-    }
+    a.checked_add(b)
+        .filter(|c| *c <= cap)
+        .ok_or(Fault::new(Reason::Heavy))
 }
 
 impl Figures {
-    fn none() -> Figures
-        ensures { result ≡ Rattle.kinds.specs.Measure.none }
-    {
-        Figures {
-            rss: 0,
-            pss: 0,
-            swap_pss: 0,
-        }
-    }
-
-    // The sums, where each is at most `cap`.
-    fn plus(self, other: Figures, cap: u64) -> Option<Figures>
+    // The sums, each at most `cap`.
+    fn plus(self, other: Figures, cap: u64) -> Result<Figures, Fault>
         ensures { result ≡ sum_of cap self other }
     {
         let rss = sum(self.rss, other.rss, cap)?;
         let pss = sum(self.pss, other.pss, cap)?;
         let swap_pss = sum(self.swap_pss, other.swap_pss, cap)?;
-        Some(Figures { rss, pss, swap_pss })
+        Ok(Figures { rss, pss, swap_pss })
     }
 
-    fn set(self, key: Key, value: u64) -> Figures
-        ensures { result ≡ set_to key value self }
+    fn set(self, setting: Setting) -> Figures
+        ensures { result ≡ set_to setting self }
     {
+        let Setting { key, amount } = setting;
         match key {
-            Key::Rss => Figures { rss: value, ..self },
-            Key::Pss => Figures { pss: value, ..self },
+            Key::Rss => Figures {
+                rss: amount,
+                ..self
+            },
+            Key::Pss => Figures {
+                pss: amount,
+                ..self
+            },
             Key::SwapPss => Figures {
-                swap_pss: value,
+                swap_pss: amount,
                 ..self
             },
         }
+    }
+}
+
+impl Tally {
+    // The totals once the open mapping is closed.
+    fn closed(self, cap: u64) -> Result<Figures, Fault>
+        ensures { result ≡ closed_with cap self }
+    {
+        self.totals.plus(self.last, cap)
+    }
+
+    // The open mapping is closed, and another open.
+    fn opened(self, cap: u64) -> Result<Tally, Fault>
+        ensures { result ≡ opened cap self }
+    {
+        Ok(Tally {
+            mappings: self.mappings.saturating_add(1),
+            totals: self.closed(cap)?,
+            last: Figures::default(),
+        })
     }
 }
 
@@ -117,48 +136,22 @@ fn step(state: State, sort: Sort, cap: u64) -> State
 {
     match (state, sort) {
         (State::Refused(f), _) => State::Refused(f),
-        (State::NoMapping, Sort::Mapping) => State::InMapping {
+        (State::NoMapping, Sort::Attribute(_)) => State::Refused(Fault::new(Reason::Orphan)),
+        (State::NoMapping, Sort::Mapping(Err(f))) => State::Refused(f),
+        (State::NoMapping, Sort::Mapping(Ok(()))) => State::InMapping(Tally {
             mappings: 1,
-            totals: Figures::none(),
-            last: Figures::none(),
+            ..Tally::default()
+        }),
+        (State::InMapping(tally), Sort::Mapping(head)) => match (tally.opened(cap), head) {
+            (Ok(tally), Ok(())) => State::InMapping(tally),
+            (Err(f), _) | (Ok(_), Err(f)) => State::Refused(f),
         },
-        (State::NoMapping, Sort::BadMapping(f)) => State::Refused(f),
-        (State::NoMapping, _) => State::Refused(Fault::new(Reason::Orphan)),
-        (
-            State::InMapping {
-                mappings,
-                totals,
-                last,
-            },
-            Sort::Mapping,
-        ) => match totals.plus(last, cap) {
-            Some(totals) => State::InMapping {
-                mappings: mappings.saturating_add(1),
-                totals,
-                last: Figures::none(),
-            },
-            None => State::Refused(Fault::new(Reason::Heavy)),
-        },
-        (State::InMapping { totals, last, .. }, Sort::BadMapping(f)) => match totals.plus(
-            last, cap,
-        ) {
-            Some(_) => State::Refused(f),
-            None => State::Refused(Fault::new(Reason::Heavy)),
-        },
-        (
-            State::InMapping {
-                mappings,
-                totals,
-                last,
-            },
-            Sort::Sets(key, value),
-        ) => State::InMapping {
-            mappings,
-            totals,
-            last: last.set(key, value),
-        },
-        (State::InMapping { .. }, Sort::Aside) => state,
-        (State::InMapping { .. }, Sort::BadAttribute(f)) => State::Refused(f),
+        (State::InMapping(tally), Sort::Attribute(Ok(Some(setting)))) => State::InMapping(Tally {
+            last: tally.last.set(setting),
+            ..tally
+        }),
+        (State::InMapping(_), Sort::Attribute(Ok(None))) => state,
+        (State::InMapping(_), Sort::Attribute(Err(f))) => State::Refused(f),
     }
 }
 
@@ -204,9 +197,8 @@ impl Kind for Open {
     }
 
     fn take(&mut self, line: &str) -> Result<(), Fault> {
-        let state = step(self.state, sort_of(line), CAP);
-        self.state = state;
-        match state {
+        self.state = step(self.state, sort_of(line), CAP);
+        match self.state {
             State::Refused(f) => Err(f),
             _ => Ok(()),
         }
@@ -215,21 +207,12 @@ impl Kind for Open {
 
 impl Close for Open {
     fn close(self) -> Result<Closed, Fault> {
-        match self.state {
-            State::Refused(f) => Err(f),
-            State::NoMapping => Ok(Closed {
-                mappings: 0,
-                totals: Figures::none(),
-            }),
-            State::InMapping {
-                mappings,
-                totals,
-                last,
-            } => match totals.plus(last, CAP) {
-                Some(totals) => Ok(Closed { mappings, totals }),
-                None => Err(Fault::new(Reason::Heavy)),
-            },
-        }
+        let (mappings, totals) = match self.state {
+            State::Refused(f) => return Err(f),
+            State::NoMapping => (0, Figures::default()),
+            State::InMapping(tally) => (tally.mappings, tally.closed(CAP)?),
+        };
+        Ok(Closed { mappings, totals })
     }
 }
 

@@ -29,10 +29,7 @@ fn read_thread(rest: &str) -> Result<MMapPath<'_>, Fault>
     ensures { seen result ≡ thread_of rest.now }
 {
     let inner = shorn(rest, "]").ok_or(Fault::new(Reason::Torn))?;
-    let tid = <u32 as sources::number::FromStrRadix>::from_str_radix(
-        up_to(inner, ':'),
-        Radix::Decimal,
-    )?;
+    let tid = FromStrRadix::from_str_radix(up_to(inner, ':'), Radix::Decimal)?;
     Ok(MMapPath::TStack(tid))
 }
 
@@ -47,13 +44,12 @@ fn bracketed(name: &str) -> Option<&str>
 fn eight(digits: &str) -> Option<i32>
     ensures { result ≡ eight_of digits.now }
 {
-    if digits.len() != 8 || digits.as_bytes()[0] == b'+' {
+    if digits.len() != 8 || digits.starts_with('+') {
         return None;
     }
-    match <u32 as sources::number::FromStrRadix>::from_str_radix(digits, Radix::Hexadecimal) {
-        Ok(n) => Some(n.cast_signed()),
-        Err(_) => None,
-    }
+    <u32 as FromStrRadix>::from_str_radix(digits, Radix::Hexadecimal)
+        .ok()
+        .map(u32::cast_signed)
 }
 
 // The key of a shared memory segment.
@@ -61,10 +57,7 @@ fn read_key(name: &str) -> Option<i32>
     ensures { result ≡ key_of name.now }
 {
     let rest = past(name, "/SYSV")?;
-    match shorn(rest, " (deleted)") {
-        Some(digits) => eight(digits),
-        None => eight(rest),
-    }
+    eight(shorn(rest, " (deleted)").unwrap_or(rest))
 }
 
 // The name of a file: white space in front is dropped, and it runs on to byte 10 or the end.

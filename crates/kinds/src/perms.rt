@@ -38,9 +38,10 @@ impl MMPermissions {
     pub fn from_letters(text: &str) -> MMPermissions
         ensures { result.bits ≡ perms_of text.now }
     {
+        // A loop, by a rule of the project: over the bytes, or-ing a bit each.
         let mut bits = 0;
-        for b in text.bytes() {
-            bits |= Self::from_ascii_char(b);
+        for b in text.as_bytes() {
+            bits |= Self::from_ascii_char(*b);
         }
         MMPermissions { bits }
     }

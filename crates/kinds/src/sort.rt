@@ -1,7 +1,5 @@
 ghost use Rattle.std.specs.Prelude.{◌≡◌};
-ghost use Rattle.kinds.specs.Attribute.{entry_of};
-ghost use Rattle.kinds.specs.Mapping.{mapping_of};
-ghost use Rattle.kinds.specs.Sorts.{sort_of, head_of, attribute_of, key_of, capital};
+ghost use Rattle.kinds.specs.Sorts.{sort_of, setting_of, key_of, capital};
 
 use crate::attribute::Attribute;
 use crate::mapping::MemoryMap;
@@ -16,20 +14,24 @@ pub enum Key {
     SwapPss,
 }
 
-// The sorts of line: one that opens a mapping, well or badly written; an attribute that sets one of the keys, or none of them, or that is badly written.
+// A measured key, and the amount that a line gives it.
 #[derive(Clone, Copy)]
-pub enum Sort {
-    Mapping,
-    BadMapping(Fault),
-    Sets(Key, u64),
-    Aside,
-    BadAttribute(Fault),
+pub struct Setting {
+    pub key: Key,
+    pub amount: u64,
 }
 
-fn key_of(key: &str) -> Option<Key>
-    ensures { result ≡ key_of key.now }
+// The sorts of line: one that opens a mapping, and an attribute's, which sets one of the keys or none. Each may be badly written.
+#[derive(Clone, Copy)]
+pub enum Sort {
+    Mapping(Result<(), Fault>),
+    Attribute(Result<Option<Setting>, Fault>),
+}
+
+fn key_of(name: &str) -> Option<Key>
+    ensures { result ≡ key_of name.now }
 {
-    match key {
+    match name {
         "Rss" => Some(Key::Rss),
         "Pss" => Some(Key::Pss),
         "SwapPss" => Some(Key::SwapPss),
@@ -37,47 +39,32 @@ fn key_of(key: &str) -> Option<Key>
     }
 }
 
-fn mapping_sort(line: &str) -> Sort
-    ensures { result ≡ head_of (mapping_of line.now) }
+// What an attribute line sets. A line of flags sets no key, and is not read further.
+fn setting_of(line: &str) -> Result<Option<Setting>, Fault>
+    ensures { result ≡ setting_of line.now }
 {
-    match MemoryMap::from_line(line) {
-        Ok(_) => Sort::Mapping,
-        Err(f) => Sort::BadMapping(f),
+    if past(line, "VmFlags").is_some() {
+        return Ok(None);
     }
-}
-
-fn attribute_sort(line: &str) -> Sort
-    ensures { result ≡ attribute_of (entry_of line.now) }
-{
-    match Attribute::from_line(line) {
-        Err(f) => Sort::BadAttribute(f),
-        Ok(None) => Sort::Aside,
-        Ok(Some(a)) => match key_of(a.key) {
-            None => Sort::Aside,
-            Some(k) => Sort::Sets(k, a.amount),
-        },
-    }
+    let Some(Attribute { key, amount }) = Attribute::from_line(line)? else {
+        return Ok(None);
+    };
+    Ok(key_of(key).map(|key| Setting { key, amount }))
 }
 
 fn capital_first(line: &str) -> bool
     ensures { result ≡ capital line.now }
 {
-    let bytes = line.as_bytes();
-    if bytes.len() == 0 {
-        return false;
-    }
-    bytes[0] >= b'A' && bytes[0] <= b'Z'
+    line.as_bytes().first().is_some_and(u8::is_ascii_uppercase)
 }
 
 // The sort of a line of smaps text.
 pub fn sort_of(line: &str) -> Sort
     ensures { result ≡ sort_of line.now }
 {
-    if !capital_first(line) {
-        return mapping_sort(line);
+    if capital_first(line) {
+        Sort::Attribute(setting_of(line))
+    } else {
+        Sort::Mapping(MemoryMap::from_line(line).map(|_| ()))
     }
-    if past(line, "VmFlags").is_some() {
-        return Sort::Aside;
-    }
-    attribute_sort(line)
 }

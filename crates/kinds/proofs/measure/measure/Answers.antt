@@ -1,9 +1,3 @@
-use Rattle.std.proofs.Common.{◌≡◌, ℕ, List, Result, ap, ◌∙◌}
-use Rattle.sources.specs.declared.fault.Refusal.{Refusal}
-use Rattle.sources.specs.Lines.{reading}
-use Rattle.kinds.specs.declared.measure.Closed.{Closed}
-use Rattle.kinds.specs.declared.measure.State.{State}
-use Rattle.kinds.specs.Measure.{measure_rules, fresh}
 use Rattle.kinds.proofs.Laws.{laws}
 use Rattle.kinds.proofs.measure.measure.Goals as goal
 
@@ -12,6 +6,6 @@ returns g c =
     let broken = g.S.Source.broken c.args.source.now in
     let text = g.S.Source.rest c.args.source.now in
     let left = g.S.Source.rest c.read.new.source in
-    let e : ◌≡◌ {A = Result Closed Refusal × List ℕ} (c.read.result, left) (reading measure_rules broken fresh text) = c.read.ensures.reading ∙ ap (λ (s : State). reading measure_rules broken s text) c.new.ensures in
+    let e = rw c.new.ensures at c.read.ensures.reading in
     let k = laws broken text left c.read.result e in
     record { defined = e; keeps = c.read.ensures.keeps; sums = k.0; editions = k.1; joins = k.2 }
