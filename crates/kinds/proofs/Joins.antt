@@ -1,5 +1,6 @@
 -- The measure of two texts joined.
 use Rattle.std.proofs.Common.{◌≡◌, ℕ, suc, ◌+◌, ◌-◌, true, false, cond, eqb, List, [], ◌∷◌, ◌++◌, length, Ok, sym, refl, ap, ◌∙◌, arith, length-append}
+use Rattle.sources.specs.Texts.{text}
 use Rattle.sources.specs.Lines.{lines_of, text_of, ahead, ended, reading}
 use Rattle.sources.proofs.Split.{text_lines, lines_cons}
 use Rattle.kinds.specs.declared.sort.Key.{Key}
@@ -72,24 +73,24 @@ figure-closed k ls c e = rw e (by_key (λ k. figure k (closed_of ls).totals ≡ 
 
 -- Where two texts are measured, the first empty or ending in byte 10, their join is measured exactly when that keeps the caps, and then all figures add.
 abbrev pub JoinsAdd : Type 0
-JoinsAdd = (t u : List ℕ) (c d : Closed) → whole t ≡ true → (reading measure_rules false fresh t).0 ≡ Ok c → (reading measure_rules false fresh u).0 ≡ Ok d →
-    ((e : Closed) → (reading measure_rules false fresh (t ++ u)).0 ≡ Ok e → Keeps t u c d × (e ≡ both c d)) × (Keeps t u c d → (reading measure_rules false fresh (t ++ u)).0 ≡ Ok (both c d))
+JoinsAdd = (t u : List ℕ) (c d : Closed) → whole t ≡ true → (reading measure_rules fresh (text t false)).0 ≡ Ok c → (reading measure_rules fresh (text u false)).0 ≡ Ok d →
+    ((e : Closed) → (reading measure_rules fresh (text (t ++ u) false)).0 ≡ Ok e → Keeps t u c d × (e ≡ both c d)) × (Keeps t u c d → (reading measure_rules fresh (text (t ++ u) false)).0 ≡ Ok (both c d))
 
 pub joins_add : JoinsAdd
 joins_add t u c d w e f =
     let T = lines_of t in
     let U = lines_of u in
-    let g = ((reading-measures false t c).0 e).1 in
-    let h = ((reading-measures false u d).0 f).1 in
+    let g = ((reading-measures (text t false) c).0 e).1 in
+    let h = ((reading-measures (text u false) d).0 f).1 in
     let s = h.begins in
     let j = lines_join t u w in
     let z : length (text_of (lines_of (t ++ u))) ≡ length t + length u = ap length (text_lines (t ++ u)) ∙ length-append t u in
     let a : (k : Key) → total k (lines_of (t ++ u)) ≡ figure k c.totals + figure k d.totals =
     λ k. rw j (omega (arith, total-join k T U s, figure-closed k T c g.is, figure-closed k U d h.is)) in
     let b : closed_of (lines_of (t ++ u)) ≡ both c d = rw (j, g.is, h.is) (closed_join T U s) in (
-      λ x y. let m = ((reading-measures false (t ++ u) x).0 y).1 in
+      λ x y. let m = ((reading-measures (text (t ++ u) false) x).0 y).1 in
           (record { fits = omega (arith, m.fits, z); light = λ k. omega (arith, m.light k, a k) }, m.is ∙ b),
-      λ y. (reading-measures false (t ++ u) (both c d)).1 (
+      λ y. (reading-measures (text (t ++ u) false) (both c d)).1 (
         refl,
         record { begins = ap starts j ∙ starts-join T U g.begins s; good = ap orderly j ∙ orderly-join T U g.good ∙ h.good; fits = omega (arith, y.fits, z); light = λ k. omega (arith, y.light k, a k); is = sym b },
       ),

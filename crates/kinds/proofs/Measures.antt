@@ -3,7 +3,8 @@ use Rattle.std.proofs.Common.{◌≡◌, ℕ, ◌+◌, ◌≤◌, Bool, true, fa
 use Rattle.std.proofs.lemmas.Bool.{and_parts, not-true}
 use Rattle.sources.specs.declared.fault.Fault.{Fault}
 use Rattle.sources.specs.declared.kind.Break.TheVariants.{Refuses}
-use Rattle.sources.specs.Lines.{lines_of, text_of, long, walk, ending, course, reading, max_line, max_text}
+use Rattle.sources.specs.Texts.{Text}
+use Rattle.sources.specs.Lines.{lines_of, text_of, long, walk, ending, course, leaves, reading, max_line, max_text}
 use Rattle.sources.specs.Faults.{at_line, and_then}
 use Rattle.sources.specs.Utf8.{is_utf8}
 use Rattle.kinds.specs.declared.sort.Key.{Key}
@@ -180,9 +181,9 @@ measures cap most (l ∷ ls) c w g =
     rw (judged-on max_line most (rules_at cap) false 0 0 NoMapping l (text_of ls) _ (record { short = d.short; fits = omega (arith, g.fits, text_cons l ls); stands = refl; text = d.text; fine = f }), x) i
 
 -- a reading is accepted where its text is measured, and nowhere else
-pub reading-measures : (broken : Bool) (text : List ℕ) → Measures broken text (reading measure_rules broken fresh text).0
-unfolding reading course
-reading-measures broken text c = (
-  λ e. measured max_total max_text broken (lines_of text) c (omega arith) e,
-  λ g. rw (g.0) (measures max_total max_text (lines_of text) c (omega arith) g.1),
+pub reading-measures : (t : Text) → Measures t (reading measure_rules fresh t).0
+unfolding reading course leaves
+reading-measures t c = (
+  λ e. measured max_total max_text t.broken (lines_of t.bytes) c (omega arith) e,
+  λ g. rw (g.0) (measures max_total max_text (lines_of t.bytes) c (omega arith) g.1),
 )

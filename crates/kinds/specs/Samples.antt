@@ -1,5 +1,6 @@
 -- Lines and what the defined readings make of them.
 use Rattle.std.specs.Prelude.{◌≡◌, ℕ, false, List, [], ◌∷◌, ◌++◌, negsuc, Some, Ok, Err, codes, Option, Result}
+use Rattle.sources.specs.Texts.{text}
 use Rattle.sources.specs.declared.fault.Fault.{Fault}
 use Rattle.sources.specs.declared.reason.Reason.TheVariants.{Orphan, Figure, Torn, Scale}
 use Rattle.sources.specs.Faults.{fault, refused}
@@ -44,11 +45,11 @@ Samples =
     × (entry_of (codes "Pss:: 4 kB") ≡ sets (codes "Pss") 4096)
     × (entry_of (codes "Size: 18014398509481983 kB") ≡ sets (codes "Size") 18446744073709550592)
     × (entry_of (codes "Size: 18014398509481984 kB") ≡ Err (fault Scale))
-    × (measured false (codes "A000-B000 r--p 00000000 08:01 77 /a") ≡ Err (refused Orphan 1))
+    × (measured (text (codes "A000-B000 r--p 00000000 08:01 77 /a") false) ≡ Err (refused Orphan 1))
     × (path_of (codes "/SYSVfffffffe") ≡ Ok (vsys (negsuc 1)))
     × (path_of (codes "/SYSVfffffff") ≡ Ok (path (codes "/SYSVfffffff")))
     × (path_of (codes "[stack:12") ≡ Err (fault Torn))
-    × (measured false two_mappings ≡ Ok (record { mappings = 2; totals = record { rss = 8192; pss = 7168; swap_pss = 2048 } }))
+    × (measured (text two_mappings false) ≡ Ok (record { mappings = 2; totals = record { rss = 8192; pss = 7168; swap_pss = 2048 } }))
     × Edition is_foreign (has_begun fresh) (lines_of two_mappings) (lines_of newer)
     × ((said (codes "Name: a:b")).ids.name ≡ Some (Ok (text_of (codes "a:b"))))
     × ((said (codes "State: a:b")).ids.state ≡ Some (Ok (text_of (codes "a"))))

@@ -1,10 +1,11 @@
 -- The reading of a status text into a record, and what it comes to.
-use Rattle.std.specs.Prelude.{ℕ, Bool, List, Ok, Result}
+use Rattle.std.specs.Prelude.{Ok, Result}
 use Rattle.sources.specs.declared.fault.Fault.{Fault}
 use Rattle.sources.specs.declared.fault.Refusal.{Refusal}
 use Rattle.sources.specs.declared.kind.Break.TheVariants.{Refuses}
 use Rattle.sources.specs.Lines.{reading}
 use Rattle.sources.specs.Rules.{Rules}
+use Rattle.sources.specs.Texts.{Text}
 use Rattle.fields.specs.LastLines.{into, ToldByLastLines, SameRecordInEditions}
 use Rattle.fields.specs.Slotted.{slot_rules, has_begun}
 use Rattle.status.specs.declared.record.StatusSlots.{StatusSlots}
@@ -20,14 +21,14 @@ status_rules = slot_rules after_status judged_slots Refuses
 abbrev pub fresh : Result StatusSlots Fault
 fresh = Ok fresh_slots
 
--- The answer, the record and the bytes left.
-abbrev pub status_of : Bool → List ℕ → Result (Unit {0}) Refusal × Status × List ℕ
-status_of broken text = into blank_status (reading status_rules broken fresh text)
+-- The answer, the record and the text left.
+abbrev pub status_of : Text → Result (Unit {0}) Refusal × Status × Text
+status_of t = into blank_status (reading status_rules fresh t)
 
 -- Each field is the reading of the last line of its name, judged in the order of the fields.
-abbrev pub StatusByLastLines : Bool → List ℕ → Result (Unit {0}) Refusal → Status → Type 0
-StatusByLastLines broken text r v = ToldByLastLines entry_of fill_slots judged_slots fresh_slots blank_status Refuses broken text r v
+abbrev pub StatusByLastLines : Text → Result (Unit {0}) Refusal → Status → Type 0
+StatusByLastLines t r v = ToldByLastLines entry_of fill_slots judged_slots fresh_slots blank_status Refuses t r v
 
 -- A newer edition reads the same.
-abbrev pub StatusInEditions : Bool → List ℕ → Result (Unit {0}) Refusal → Status → Type 0
-StatusInEditions broken text r v = SameRecordInEditions status_rules has_begun is_foreign fresh blank_status broken text r v
+abbrev pub StatusInEditions : Text → Result (Unit {0}) Refusal → Status → Type 0
+StatusInEditions t r v = SameRecordInEditions status_rules has_begun is_foreign fresh blank_status t r v

@@ -2,6 +2,7 @@
 use Rattle.std.specs.Prelude.{◌≡◌, ℕ, ◌+◌, ◌≤◌, Bool, true, false, cond, not, ◌&&◌, List, [], ◌∷◌, ◌++◌, length, Some, Ok, Result}
 use Rattle.std.specs.Result.{is_ok}
 use Rattle.sources.specs.Lines.{lines_of, text_of, long, ended, reading, max_line, max_text}
+use Rattle.sources.specs.Texts.{Text, text}
 use Rattle.sources.specs.Utf8.{is_utf8}
 use Rattle.sources.specs.declared.fault.Refusal.{Refusal}
 use Rattle.kinds.specs.declared.sort.Key.{Key}
@@ -83,8 +84,8 @@ pub record Measured (cap most : ℕ) (ls : List (List ℕ)) (c : Closed) : Type 
   pub is : c ≡ closed_of ls
 
 -- What is measured, and as what: the totals are the sums over the mappings.
-abbrev pub Measures : Bool → List ℕ → Result Closed Refusal → Type 0
-Measures broken text r = (c : Closed) → (r ≡ Ok c → (broken ≡ false) × Measured max_total max_text (lines_of text) c) × ((broken ≡ false) × Measured max_total max_text (lines_of text) c → r ≡ Ok c)
+abbrev pub Measures : Text → Result Closed Refusal → Type 0
+Measures t r = (c : Closed) → (r ≡ Ok c → (t.broken ≡ false) × Measured max_total max_text (lines_of t.bytes) c) × ((t.broken ≡ false) × Measured max_total max_text (lines_of t.bytes) c → r ≡ Ok c)
 
 -- The figure of a key.
 abbrev pub figure : Key → Figures → ℕ
@@ -107,10 +108,10 @@ whole [] = true
 whole (b ∷ bs) = ended (b ∷ bs)
 
 -- A newer edition of the text, within the cap, gets the same answer.
-abbrev pub SameInEditions : Bool → List ℕ → Result Closed Refusal → Type 0
-SameInEditions broken text r = (text' : List ℕ) → Edition is_foreign (has_begun fresh) (lines_of text) (lines_of text') → length text' ≤ max_text → Same r (reading measure_rules broken fresh text').0
+abbrev pub SameInEditions : Text → Result Closed Refusal → Type 0
+SameInEditions t r = (bytes' : List ℕ) → Edition is_foreign (has_begun fresh) (lines_of t.bytes) (lines_of bytes') → length bytes' ≤ max_text → Same r (reading measure_rules fresh (text bytes' t.broken)).0
 
 -- Where the text is the join of two that are measured, the first empty or ending in byte 10, it is measured exactly when that keeps the caps, and then all figures add.
-abbrev pub AddsOverJoins : Bool → List ℕ → Result Closed Refusal → Type 0
-AddsOverJoins broken text r = (t u : List ℕ) (c d : Closed) → broken ≡ false → text ≡ t ++ u → whole t ≡ true → (reading measure_rules false fresh t).0 ≡ Ok c → (reading measure_rules false fresh u).0 ≡ Ok d →
+abbrev pub AddsOverJoins : Text → Result Closed Refusal → Type 0
+AddsOverJoins v r = (t u : List ℕ) (c d : Closed) → v ≡ text (t ++ u) false → whole t ≡ true → (reading measure_rules fresh (text t false)).0 ≡ Ok c → (reading measure_rules fresh (text u false)).0 ≡ Ok d →
     ((e : Closed) → r ≡ Ok e → Keeps t u c d × (e ≡ both c d)) × (Keeps t u c d → r ≡ Ok (both c d))

@@ -1,4 +1,5 @@
-ghost use Rattle.std.specs.Prelude.{◌≡◌, ◌+◌};
+ghost use Rattle.std.specs.Prelude.{◌≡◌, ◌+◌, refl};
+ghost use Rattle.sources.specs.declared.kind.Break.TheVariants.{Refuses};
 ghost use Rattle.kinds.specs.Measure.{fresh, next, measure_rules, has_begun, is_foreign, within, sum_of, set_to, closed_with, opened};
 ghost use Rattle.kinds.specs.MeasureLaws.{refusal_stays, foreign_aside, begins_with_mapping};
 ghost use Rattle.kinds.specs.Measured.{recording_of, join_of};
@@ -170,6 +171,8 @@ impl Kind for Open {
 
     const BREAK: Break = Break::Refuses;
 
+    ghost BREAK = { Refuses };
+
     ghost Meaning = { Standing };
 
     ghost means = { λ m. m.state };
@@ -179,6 +182,8 @@ impl Kind for Open {
     ghost begun = { has_begun };
 
     ghost foreign = { is_foreign };
+
+    ghost breaks = { refl };
 
     ghost stays = { refusal_stays };
 
@@ -191,10 +196,6 @@ impl Kind for Open {
     ghost framed = { λ _. tt };
 
     ghost still = { λ _ _ _ _ _. tt };
-
-    fn at_break() -> Break {
-        Self::BREAK
-    }
 
     fn take(&mut self, line: &str) -> Result<(), Fault> {
         self.state = step(self.state, sort_of(line), CAP);
@@ -218,11 +219,10 @@ impl Close for Open {
 
 // Measures the smaps text of a source.
 pub fn measure<S: Source>(source: &mut S) -> Result<Closed, Refusal>
-    ensures defined { (result, S.Source.rest source.new) ≡ reading measure_rules (S.Source.broken source.old) fresh (S.Source.rest source.old) }
-    ensures keeps { S.Source.broken source.new ≡ S.Source.broken source.old }
-    ensures sums { Measures (S.Source.broken source.old) (S.Source.rest source.old) result }
-    ensures editions { SameInEditions (S.Source.broken source.old) (S.Source.rest source.old) result }
-    ensures joins { AddsOverJoins (S.Source.broken source.old) (S.Source.rest source.old) result }
+    ensures defined { (result, S.text source.new) ≡ reading measure_rules fresh (S.text source.old) }
+    ensures sums { Measures (S.text source.old) result }
+    ensures editions { SameInEditions (S.text source.old) result }
+    ensures joins { AddsOverJoins (S.text source.old) result }
 {
     read(source, Open::new())
 }
@@ -240,7 +240,7 @@ pub fn measure_joined<A: Source + Drop, B: Source + Drop>(
     first: A,
     second: B,
 ) -> Result<Closed, Refusal>
-    ensures { result ≡ join_of (A.Source.broken first) (A.Source.rest first) (B.Source.broken second) (B.Source.rest second) }
+    ensures { result ≡ join_of (A.text first) (B.text second) }
 {
     let mut both = Join::new(first, second);
     measure(&mut both)

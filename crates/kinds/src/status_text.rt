@@ -1,4 +1,4 @@
-ghost use Rattle.std.specs.Prelude.{◌≡◌, Result as ResultOf};
+ghost use Rattle.std.specs.Prelude.{◌≡◌, refl, Result as ResultOf};
 ghost use Rattle.fields.specs.Slotted.{has_begun, refusal_stays, foreign_aside, begins_with_any};
 ghost use Rattle.sources.specs.declared.fault.Fault.{Fault as FaultOf};
 ghost use Rattle.status.specs.declared.record.StatusSlots.{StatusSlots as SlotsOf};
@@ -36,6 +36,8 @@ impl Kind for StatusText {
 
     const BREAK: Break = Break::Refuses;
 
+    ghost BREAK = { Refuses };
+
     ghost Meaning = { ResultOf SlotsOf FaultOf };
 
     ghost means = { λ t. t.filling.state };
@@ -45,6 +47,8 @@ impl Kind for StatusText {
     ghost begun = { has_begun };
 
     ghost foreign = { is_foreign };
+
+    ghost breaks = { refl };
 
     ghost stays = { refusal_stays after_status judged_slots Refuses };
 
@@ -57,10 +61,6 @@ impl Kind for StatusText {
     ghost framed = { λ _. tt };
 
     ghost still = { λ _ _ _ _ _. tt };
-
-    fn at_break() -> Break {
-        Self::BREAK
-    }
 
     fn take(&mut self, line: &str) -> Result<(), Fault> {
         self.filling.take(line)
@@ -75,10 +75,9 @@ impl Finish for StatusText {
 
 // Reads the status text of a source into a record, which is blank after a refusal.
 pub fn read_status<S: Source>(source: &mut S, status: &mut Status) -> Result<(), Refusal>
-    ensures defined { (result, status.new, S.Source.rest source.new) ≡ status_of (S.Source.broken source.old) (S.Source.rest source.old) }
-    ensures keeps { S.Source.broken source.new ≡ S.Source.broken source.old }
-    ensures lines { StatusByLastLines (S.Source.broken source.old) (S.Source.rest source.old) result status.new }
-    ensures editions { StatusInEditions (S.Source.broken source.old) (S.Source.rest source.old) result status.new }
+    ensures defined { (result, status.new, S.text source.new) ≡ status_of (S.text source.old) }
+    ensures lines { StatusByLastLines (S.text source.old) result status.new }
+    ensures editions { StatusInEditions (S.text source.old) result status.new }
 {
     let mut text = StatusText::new();
     put_record(fill(source, &mut text), Status::blank(), status)

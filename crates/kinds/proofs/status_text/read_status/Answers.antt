@@ -10,8 +10,7 @@ use Rattle.kinds.proofs.status_text.read_status.Goals as goal
 
 pub returns : goal.returns
 returns g c =
-    let broken = g.S.Source.broken c.args.source.now in
-    let text = g.S.Source.rest c.args.source.now in
-    let e = c.fill.ensures.reading ∙ ap (λ (m : Result StatusSlots Fault). reading status_rules broken m text) c.new-text.ensures in
-    let h = given blank_status (Shown broken text) (shown broken text) e c.blank.ensures c.put_record.ensures.answer c.put_record.ensures.holds in
-    record { defined = h.defined; keeps = c.fill.ensures.keeps; lines = h.lines; editions = h.editions }
+    let t = g.S.Source.text c.args.source.now in
+    let e = c.fill.ensures.reading ∙ ap (λ (m : Result StatusSlots Fault). reading status_rules m t) c.new-text.ensures in
+    let h = given blank_status (Shown t) (shown t) e c.blank.ensures c.put_record.ensures.answer c.put_record.ensures.holds in
+    record { defined = h.defined; lines = h.lines; editions = h.editions }
