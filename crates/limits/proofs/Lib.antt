@@ -1,2 +1,3 @@
-mod Listed
-mod Ranked
+mod Entered
+mod Judged
+mod Yielded
