@@ -1,3 +1,2 @@
 mod Entered
-mod Judged
 mod Yielded

@@ -1,5 +1,5 @@
 -- The record of limits and its slots: what an entry sets, what a line leaves, and how closing judges them.
-use Rattle.std.specs.Prelude.{ℕ, ◌+◌, ◌-◌, cond, List, [], ◌∷◌, map, Some, None, Ok, Result, ◌==◌, replicate, slice_index_or}
+use Rattle.std.specs.Prelude.{ℕ, zero, suc, ◌+◌, ◌-◌, cond, List, [], ◌∷◌, map, Some, None, Ok, Result, ◌==◌, replicate, slice_index_or}
 use Rattle.sources.specs.declared.fault.Fault.{Fault}
 use Rattle.sources.specs.Faults.{and_then}
 use Rattle.std.specs.List.{enumerate_from}
@@ -61,11 +61,16 @@ fill_limits es s = record { slots = map (λ p. last_of p.0 es p.1) (enumerate_fr
 abbrev pub after_limits : LimitsSlots → List ℕ → Result LimitsSlots Fault
 after_limits s line = after_entry fill_limits s (entry_of line)
 
--- Slots with the numbers from n on, judged in order: every field has to be there, and the first that is not as it must be is the one that is told.
-abbrev pub judged_from : ℕ → List (Slot Limit) → Result (List Limit) Fault
-judged_from n [] = Ok []
-judged_from n (slot ∷ slots) = and_then (needed n slot) (λ l. and_then (judged_from (n + 1) slots) (λ ls. Ok (l ∷ ls)))
+-- The slot of the field with a number.
+abbrev pub slot : ℕ → LimitsSlots → Slot Limit
+slot number s = slice_index_or s.slots (number - 1) None
+
+-- The limits of n fields, numbered from `number` on, judged in order: each has to be there, and the first that is not as it must be is the one that is told.
+abbrev pub judged_from : ℕ → ℕ → LimitsSlots → Result (List Limit) Fault
+judged_from number zero s = Ok []
+judged_from number (suc n) s =
+    and_then (needed number (slot number s)) (λ l. and_then (judged_from (number + 1) n s) (λ ls. Ok (l ∷ ls)))
 
 -- Closing.
 abbrev pub judged_limits : LimitsSlots → Result Limits Fault
-judged_limits s = and_then (judged_from 1 s.slots) (λ ls. Ok (limits_of ls))
+judged_limits s = and_then (judged_from 1 16 s) (λ ls. Ok (limits_of ls))
