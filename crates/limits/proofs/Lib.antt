@@ -1,2 +1,2 @@
-mod Listed
-mod Ranked
+mod Entered
+mod Yielded

@@ -1,5 +1,5 @@
 -- What a line of limits says: the field that it sets, with the words of its soft and its hard limit.
-use Rattle.std.specs.Prelude.{ℕ, ◌+◌, ◌-◌, Bool, cond, ◌&&◌, ◌||◌, List, length, take, is_some, Some, None, Ok, Err, codes, Option, Result, ◌==◌, nat_le, nat_lt}
+use Rattle.std.specs.Prelude.{ℕ, ◌+◌, ◌-◌, Bool, cond, ◌&&◌, ◌||◌, List, length, take, is_some, None, Ok, Err, codes, Option, Result, is_none, nat_le, nat_lt}
 use Rattle.std.specs.Option.{option_map}
 use Rattle.sources.specs.declared.fault.Fault.{Fault}
 use Rattle.sources.specs.declared.reason.Reason.TheVariants.{Short}
@@ -7,7 +7,7 @@ use Rattle.sources.specs.Faults.{fault}
 use Rattle.sources.specs.Pieces.{past}
 use Rattle.sources.specs.White.{trim, white_words}
 use Rattle.limits.specs.declared.line.Setting.{Setting}
-use Rattle.limits.specs.Names.{number_of}
+use Rattle.limits.specs.Names.{place_of}
 use Rattle.limits.specs.Words.{word_at}
 
 -- The number of a field, the soft limit and the hard one.
@@ -30,17 +30,13 @@ words_behind t = cond (unitless t) 2 3
 abbrev pub name_length : List ℕ → ℕ
 name_length t = length (white_words t) - words_behind t
 
--- The number of the field that is named, or 0.
-abbrev pub field_of : List ℕ → ℕ
-field_of t = number_of (take (name_length t) (white_words t))
+-- The place of the field that is named, if one is.
+abbrev pub place_in : List ℕ → Option ℕ
+place_in t = place_of (take (name_length t) (white_words t))
 
--- An entry of the field k, unless k is 0.
-abbrev pub entry_for : ℕ → List ℕ → List ℕ → Option Entry
-entry_for k soft hard = cond (k == 0) None (Some (k, soft, hard))
-
--- The entry of a trimmed line of three words or more.
+-- The entry of a trimmed line of three words or more: fields are numbered from 1 on, in the order of their names.
 abbrev pub named : List ℕ → Option Entry
-named t = entry_for (field_of t) (word_at (name_length t) (white_words t)) (word_at (name_length t + 1) (white_words t))
+named t = option_map (λ place. (place + 1, word_at (name_length t) (white_words t), word_at (name_length t + 1) (white_words t))) (place_in t)
 
 -- The entry of a trimmed line.
 abbrev pub trimmed_entry : List ℕ → Result (Option Entry) Fault
@@ -52,7 +48,7 @@ entry_of line = trimmed_entry (trim line)
 
 -- Whether a trimmed line is the heading, or has three words or more and a name that is none of the sixteen.
 abbrev pub trimmed_foreign : List ℕ → Bool
-trimmed_foreign t = is_heading t || (nat_le 3 (length (white_words t)) && field_of t == 0)
+trimmed_foreign t = is_heading t || (nat_le 3 (length (white_words t)) && is_none (place_in t))
 
 -- The same of any line: it changes nothing.
 abbrev pub is_foreign : List ℕ → Bool
@@ -60,7 +56,7 @@ is_foreign line = trimmed_foreign (trim line)
 
 -- What an entry that borrows its line says.
 abbrev pub told_entry : Setting → Entry
-told_entry s = (s.number, s.soft.now, s.hard.now)
+told_entry s = (s.place + 1, s.soft.now, s.hard.now)
 
 abbrev pub seen_entry : Result (Option Setting) Fault → Result (Option Entry) Fault
 seen_entry (Ok o) = Ok (option_map told_entry o)

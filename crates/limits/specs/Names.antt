@@ -1,12 +1,7 @@
--- The names of the limits, and the number of the field that words name.
-use Rattle.std.specs.Prelude.{ℕ, ◌+◌, cond, List, [], ◌∷◌, codes}
+-- The names of the limits, and the field that words name.
+use Rattle.std.specs.Prelude.{ℕ, List, [], ◌∷◌, codes, Option, position}
 use Rattle.sources.specs.White.{white_words}
 use Rattle.limits.specs.Words.{same_words}
-
--- The place of words among names that are numbered from k, and 0 where they are the words of none.
-abbrev pub rank : ℕ → List (List ℕ) → List (List ℕ) → ℕ
-rank k [] ws = 0
-rank k (x ∷ xs) ws = cond (same_words ws (white_words x)) k (rank (k + 1) xs ws)
 
 -- In the order of the fields.
 abbrev pub names : List (List ℕ)
@@ -29,6 +24,6 @@ names =
     ∷ codes "Max realtime timeout"
     ∷ []
 
--- The number of the field, from 1 on, or 0.
-unfoldable pub number_of : List (List ℕ) → ℕ
-number_of ws = rank 1 names ws
+-- The place, from 0 on, of the name that words are, if they are one.
+unfoldable pub place_of : List (List ℕ) → Option ℕ
+place_of ws = position (λ name. same_words ws (white_words name)) names

@@ -1,10 +1,13 @@
 ghost use Rattle.std.specs.Prelude.{◌≡◌};
-ghost use Rattle.limits.specs.Values.{bound_of, value_of, limit_of};
+ghost use Rattle.limits.specs.declared.limit.LimitValue.TheVariants.{Value};
+ghost use Rattle.limits.specs.Values.{value_of, limit_of};
 
 use sources::fault::Fault;
 use sources::number::{FromStrRadix, Radix};
+use std::str::FromStr;
 
 // How far a process may go, or that there is no bound.
+// It could be an `Option<u64>`: a rule of the project names this enum, which the Rust has.
 #[derive(Clone, Copy, PartialEq, Eq, Debug)]
 pub enum LimitValue {
     Unlimited,
@@ -12,27 +15,33 @@ pub enum LimitValue {
 }
 
 // The bound that counts, and the one up to which a process may raise it.
-#[derive(Clone, Copy, PartialEq, Eq, Debug)]
+#[derive(Clone, Copy, PartialEq, Eq, Debug, Default)]
 pub struct Limit {
     pub soft_limit: LimitValue,
     pub hard_limit: LimitValue,
 }
 
-fn read_bound(word: &str) -> Result<LimitValue, Fault>
-    ensures { result ≡ bound_of word.now }
-{
-    let n = <u64 as sources::number::FromStrRadix>::from_str_radix(word, Radix::Decimal)?;
-    Ok(LimitValue::Value(n))
+// The number 0: what is blank allows nothing.
+impl Default for LimitValue {
+    ghost is_default = { λ v. v ≡ Value 0 };
+
+    fn default() -> LimitValue {
+        LimitValue::Value(0)
+    }
 }
 
-impl LimitValue {
-    pub fn from_word(word: &str) -> Result<LimitValue, Fault>
-        ensures { result ≡ value_of word.now }
-    {
-        match word {
-            "unlimited" => Ok(LimitValue::Unlimited),
-            _ => read_bound(word),
+// The word "unlimited", or a number of 64 bits.
+impl FromStr for LimitValue {
+    type Err = Fault;
+
+    ghost from_str_gives = { λ word r. r ≡ value_of word };
+
+    fn from_str(word: &str) -> Result<LimitValue, Fault> {
+        if word == "unlimited" {
+            return Ok(LimitValue::Unlimited);
         }
+        let bound = <u64 as FromStrRadix>::from_str_radix(word, Radix::Decimal)?;
+        Ok(LimitValue::Value(bound))
     }
 }
 
@@ -42,8 +51,8 @@ impl Limit {
         ensures { result ≡ limit_of soft.now hard.now }
     {
         Ok(Limit {
-            soft_limit: LimitValue::from_word(soft)?,
-            hard_limit: LimitValue::from_word(hard)?,
+            soft_limit: soft.parse()?,
+            hard_limit: hard.parse()?,
         })
     }
 }

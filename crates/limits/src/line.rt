@@ -1,16 +1,16 @@
-ghost use Rattle.std.specs.Prelude.{◌≡◌};
+ghost use Rattle.std.specs.Prelude.{◌≡◌, ◌<◌, IfOk, IfSome};
 ghost use Rattle.limits.specs.Entries.{entry_of, seen_entry, unitless as unitless_of, words_behind};
 
-use crate::names::number_of;
-use crate::words::{count_words, two_words};
+use crate::names::place_of;
+use crate::words::{count_words, word_at};
 use sources::fault::Fault;
 use sources::pieces::{past, trimmed};
 use sources::reason::Reason;
 
-// What a line says of a limit: the number of its field, and the words of the soft limit and the hard one.
+// What a line says of a limit: the place of its field, from 0 on, and the words of the soft limit and the hard one.
 #[derive(Clone, Copy)]
 pub struct Setting<'a> {
-    pub number: u8,
+    pub place: usize,
     pub soft: &'a str,
     pub hard: &'a str,
 }
@@ -32,7 +32,8 @@ fn words_behind(text: &str) -> usize
 impl<'a> Setting<'a> {
     // What the line says, if it names a limit.
     pub fn from_line(line: &'a str) -> Result<Option<Setting<'a>>, Fault>
-        ensures { seen_entry result ≡ entry_of line.now }
+        ensures entry { seen_entry result ≡ entry_of line.now }
+        ensures bound { IfOk result (λ o. IfSome o (λ s. s.place < 16)) }
     {
         let text = trimmed(line);
         if past(text, "Limit").is_some() {
@@ -43,11 +44,13 @@ impl<'a> Setting<'a> {
             return Err(Fault::new(Reason::Short));
         }
         let n = count - words_behind(text);
-        let number = number_of(text, n);
-        if number == 0 {
+        let Some(place) = place_of(text, n) else {
             return Ok(None);
-        }
-        let (soft, hard) = two_words(text, n);
-        Ok(Some(Setting { number, soft, hard }))
+        };
+        Ok(Some(Setting {
+            place,
+            soft: word_at(text, n),
+            hard: word_at(text, n + 1),
+        }))
     }
 }

@@ -1,7 +1,6 @@
-ghost use Rattle.std.specs.Prelude.{◌≡◌, ◌<◌, map, length, take};
-ghost use Rattle.sources.specs.Pieces.{bytes_of};
+ghost use Rattle.std.specs.Prelude.{◌≡◌, ◌<◌, take, IfSome};
 ghost use Rattle.sources.specs.White.{white_words};
-ghost use Rattle.limits.specs.Names.{number_of, rank as rank_of};
+ghost use Rattle.limits.specs.Names.{place_of};
 
 use crate::words::same_words;
 
@@ -25,24 +24,10 @@ const NAMES: [&str; 16] = [
     "Max realtime timeout",
 ];
 
-// The place, from 1 on, of the name that the first n words of a text are, or 0 where they are none of the names.
-fn rank(names: &[&str], text: &str, n: usize) -> u8
-    requires { length names.now < 255 }
-    ensures { result ≡ rank_of 1 (map bytes_of names.now) (take n (white_words text.now)) }
+// The place, from 0 on, of the name that the first n words of a text are, if they are one.
+pub fn place_of(text: &str, n: usize) -> Option<usize>
+    ensures value { result ≡ place_of (take n (white_words text.now)) }
+    ensures bound { IfSome result (λ place. place < 16) }
 {
-    let mut k: u8 = 1;
-    for own in names {
-        if same_words(text, n, own) {
-            return k;
-        }
-        k += 1;
-    }
-    0
-}
-
-// The number of the field that the first n words of a text name, or 0.
-pub fn number_of(text: &str, n: usize) -> u8
-    ensures { result ≡ number_of (take n (white_words text.now)) }
-{
-    rank(&NAMES, text, n)
+    NAMES.iter().position(|own| same_words(text, n, own))
 }

@@ -1,10 +1,10 @@
 ghost use Rattle.std.specs.Prelude.{◌≡◌};
 ghost use Rattle.limits.specs.Record.{blank_limits};
 
-use crate::limit::{Limit, LimitValue};
+use crate::limit::Limit;
 
 // The limits of a process.
-#[derive(Clone, Copy)]
+#[derive(Clone, Copy, Default)]
 pub struct Limits {
     pub max_cpu_time: Limit,
     pub max_file_size: Limit,
@@ -29,27 +29,6 @@ impl Limits {
     pub fn blank() -> Limits
         ensures { result ≡ blank_limits }
     {
-        let none = Limit {
-            soft_limit: LimitValue::Value(0),
-            hard_limit: LimitValue::Value(0),
-        };
-        Limits {
-            max_cpu_time: none,
-            max_file_size: none,
-            max_data_size: none,
-            max_stack_size: none,
-            max_core_file_size: none,
-            max_resident_set: none,
-            max_processes: none,
-            max_open_files: none,
-            max_locked_memory: none,
-            max_address_space: none,
-            max_file_locks: none,
-            max_pending_signals: none,
-            max_msgqueue_size: none,
-            max_nice_priority: none,
-            max_realtime_priority: none,
-            max_realtime_timeout: none,
-        }
+        Limits::default()
     }
 }
