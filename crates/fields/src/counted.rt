@@ -11,7 +11,7 @@ fn front<T>(items: &[T], n: usize) -> &[T]
     items.get(..n).unwrap_or(items)
 }
 
-// A list of at most N items: the first `len` cells count, and the others are blank. It is a table and no Vec, since the libraries allocate nothing, and so it is `Copy`.
+// A list of at most N items: the first `len` cells count, and the others are blank. The libraries allocate nothing, so it is a table with a count, which is `Copy`, and no `Vec`.
 #[derive(Clone, Copy)]
 pub struct Counted<T, const N: usize> {
     pub cells: [T; N],
@@ -34,6 +34,7 @@ impl<T: Default + Copy, const N: usize> Default for Counted<T, N> {
 }
 
 impl<T: Copy, const N: usize> Counted<T, N> {
+    // The cells that count.
     pub fn items(&self) -> &[T]
         ensures { result.now ≡ take self.now.len self.now.cells }
     {

@@ -13,7 +13,7 @@ pub struct Filling<S> {
     state: Result<S, Fault>,
 }
 
-impl<S: Slots + Drop> Filling<S> {
+impl<S: Slots> Filling<S> {
     pub fn new(slots: S) -> Filling<S>
         ensures { result.state ≡ Ok slots }
     {
@@ -21,6 +21,8 @@ impl<S: Slots + Drop> Filling<S> {
     }
 
     pub fn take(&mut self, line: &str) -> Result<(), Fault>
+    where
+        S: Drop,
         ensures next { self.new.state ≡ and_then self.old.state (λ s. S.Slots.after s line.now) }
         ensures verdict { result ≡ verdict_of (result_err self.new.state) }
     {

@@ -19,7 +19,7 @@ pub trait Item {
         ensures { result ≡ reading piece.now };
 }
 
-// A base, by a type.
+// A base of numbers, as a type.
 pub trait Base {
     ghost RADIX: { RadixOf };
 
@@ -73,6 +73,7 @@ impl Item for Range {
     ghost reading = { range_of };
 
     fn read(piece: &str) -> Result<(u32, u32), NumberFault> {
+        // Without a hyphen the first number is the last too.
         let (first, last) = cut(piece, '-').unwrap_or((piece, piece));
         Ok((
             <u32 as FromStrRadix>::from_str_radix(first, Radix::Decimal)?,

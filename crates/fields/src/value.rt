@@ -45,6 +45,7 @@ fn read_word(word: Option<&str>) -> Result<u32, Fault>
     figure(word.ok_or(Fault::new(Reason::Short))?, Radix::Decimal)
 }
 
+// The first four words, each judged by itself.
 #[tactic(auto, using(crate::proofs::Told::nth_drop))]
 pub fn read_four(text: &str) -> Result<Four, Fault>
     ensures { result ≡ four_of text.now }
@@ -97,6 +98,7 @@ fn commas_list<I: Item, const N: usize>(text: &str) -> Result<Counted<I::Value, 
     read_list::<I, _, N>(text.split(','))
 }
 
+// The groups of a process.
 pub fn groups(text: &str) -> Result<Counted<u32, 128>, Fault>
     ensures { result ≡ groups_of text.now }
 {
@@ -110,6 +112,7 @@ pub fn spaces(text: &str) -> Result<Counted<i32, 32>, Fault>
     Ok(words_list::<Process, 32>(text)?)
 }
 
+// The words of a mask.
 pub fn mask(text: &str) -> Result<Counted<u32, 256>, Fault>
     ensures { result ≡ mask_of text.now }
 {
