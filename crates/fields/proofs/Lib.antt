@@ -3,4 +3,3 @@ pub mod Told
 pub mod Puts
 pub mod Courses
 pub mod Into
-mod Pieces

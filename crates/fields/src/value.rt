@@ -13,7 +13,6 @@ use sources::fault::Fault;
 use sources::number::{FromStrRadix, Radix};
 use sources::pieces::{cut, shorn, up_to};
 use sources::reason::Reason;
-use sources::words::Words;
 
 // A number.
 pub fn figure<T: FromStrRadix>(text: &str, radix: Radix) -> Result<T, Fault>
@@ -46,15 +45,14 @@ fn read_word(word: Option<&str>) -> Result<u32, Fault>
 }
 
 // The first four words, each judged by itself.
-#[tactic(auto, using(crate::proofs::Told::nth_drop))]
 pub fn read_four(text: &str) -> Result<Four, Fault>
     ensures { result ≡ four_of text.now }
 {
-    let mut words = Words::new(text);
-    let real = read_word(words.take_word());
-    let effective = read_word(words.take_word());
-    let saved = read_word(words.take_word());
-    let filesystem = read_word(words.take_word());
+    let mut words = text.split_whitespace();
+    let real = read_word(words.next());
+    let effective = read_word(words.next());
+    let saved = read_word(words.next());
+    let filesystem = read_word(words.next());
     Ok(Four {
         real,
         effective,

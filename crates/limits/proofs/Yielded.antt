@@ -1,28 +1,10 @@
 -- What runs of iterators over words come to.
-use Rattle.std.proofs.Common.{◌≡◌, ℕ, Bool, true, false, List, [], ◌∷◌, drop, Some, None, IsUtf8, Option, sym, ap, ◌∙◌, subst}
+use Rattle.std.proofs.Common.{◌≡◌, Bool, true, false, List, [], ◌∷◌, Some, None, Option, sym, subst}
 use Rattle.std.specs.Cmp.Lexicographic.{pointwise}
 use Rattle.std.specs.Iterator.{AlwaysYields, YieldsThen, ComparesItemsByEq}
 use Rattle.std.specs.List.{AllZip}
 use Rattle.std.specs.Option.{MatchOption, IfSome}
-use Rattle.std.specs.Str.Iter.{split_whitespace_rest, split_whitespace_steps}
-use Rattle.std.specs.declared.str.SplitWhitespace.{SplitWhitespace}
 use Rattle.std.proofs.lemmas.Iterator.{YieldsList}
-use Rattle.sources.specs.White.{nth, white_words}
-use Rattle.sources.proofs.Spaced.{words_next}
-
--- each call gives the first of the words that are left
-words_yielded : (ws : List (List ℕ)) (s : SplitWhitespace) → IsUtf8 (split_whitespace_rest s) → white_words (split_whitespace_rest s) ≡ ws → AlwaysYields split_whitespace_steps (λ w. w.now) s ws
-words_yielded [] s u e = λ x t k. let none : Some x.now ≡ None = (words_next s t (Some x) u k).value ∙ ap (nth 0) e in cc
-words_yielded (w ∷ ws) s u e = (
-  λ t k. let some : None ≡ Some w = (words_next s t None u k).value ∙ ap (nth 0) e in cc,
-  λ x t k.
-      let h = words_next s t (Some x) u k in
-      let first : Some x.now ≡ Some w = h.value ∙ ap (nth 0) e in
-      (cc, words_yielded ws t h.text (h.after ∙ ap (drop 1) e)),
-)
-
-pub YieldsList-from_words : {s : SplitWhitespace} (text : List ℕ) → IsUtf8 text → split_whitespace_rest s ≡ text → YieldsList split_whitespace_steps (λ w. w.now) s (white_words text)
-YieldsList-from_words {s} text u e = record { runs = words_yielded (white_words text) s (subst IsUtf8 (sym e) u) (ap white_words e) }
 
 module _ {S T A B : Type 0} (steps : S → Option A → S → Type 0) (others : T → Option A → T → Type 0) (v : A → B) (eq : A → A → Bool) (R : B → B → Bool)
     (agree : (x y : A) → eq x y ≡ R (v x) (v y)) (r : Bool) where
