@@ -24,7 +24,7 @@ fresh = NoMapping
 abbrev pub none : Figures
 none = record { rss = 0; pss = 0; swap_pss = 0 }
 
--- A number that keeps the cap.
+-- A number that keeps the cap; one above it is refused.
 abbrev pub within : ℕ → ℕ → Result ℕ Fault
 within cap n = cond (nat_lt cap n) (Err (fault Heavy)) (Ok n)
 
@@ -49,7 +49,7 @@ set_to s f = with_value s.key s.amount f
 abbrev pub more : ℕ → ℕ
 more n = cond (nat_lt n 4294967295) (n + 1) n
 
--- No mapping before the first, which is open.
+-- The first mapping is open, and none before it.
 abbrev pub first : Tally
 first = record { mappings = 1; totals = none; last = none }
 

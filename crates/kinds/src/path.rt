@@ -84,6 +84,7 @@ fn read_named<'a>(name: &'a str, text: &'a str) -> Result<MMapPath<'a>, Fault>
 }
 
 impl<'a> MMapPath<'a> {
+    // The Rust's name; no impl of From, since a text may be refused.
     pub fn from(text: &'a str) -> Result<MMapPath<'a>, Fault>
         ensures { seen result ≡ path_of text.now }
     {

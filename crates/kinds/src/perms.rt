@@ -8,6 +8,7 @@ pub struct MMPermissions {
 }
 
 impl MMPermissions {
+    // Constants, by their names in the Rust.
     pub const NONE: u8 = 0;
 
     pub const READ: u8 = 1;

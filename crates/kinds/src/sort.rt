@@ -28,6 +28,7 @@ pub enum Sort {
     Attribute(Result<Option<Setting>, Fault>),
 }
 
+// The measured key of a name. Another name is no error, so this is no TryFrom.
 fn key_of(name: &str) -> Option<Key>
     ensures { result ≡ key_of name.now }
 {
