@@ -3,46 +3,34 @@
 
 mod report;
 
-ghost use Rattle.std.specs.Prelude.{◌≤◌, length, IfOk};
+ghost use Rattle.std.specs.Prelude.{◌≡◌, take, IfOk, IfSome};
+ghost use Rattle.std.specs.Option.{option_map};
 
-use report::{Report, charge};
+use report::{LONGEST, charge};
+use std::alloc::Global;
 use std::io;
 use std::io::Read;
 use std::process::ExitCode;
 
-// One byte more than an input may have.
-const ROOM: usize = 65537;
-
-// Reads until the end of the input or of the buffer, and answers how many bytes came.
-fn read_all<R: Read>(input: &mut R, buf: &mut [u8]) -> io::Result<usize>
-    ensures { IfOk result (λ n. n ≤ length buf.new) }
+// Reads the whole input, or one byte more than it may have.
+fn read_input<R: Read + Drop>(input: R, heap: Global) -> io::Result<Vec<u8>>
+    ensures { IfOk result (λ bytes. IfSome (option_map (take 65537) (R.remaining input)) (λ front. bytes.items ≡ front)) }
 {
-    let mut len = 0;
-    for _ in 0..ROOM {
-        if len >= buf.len() {
-            break;
-        }
-        let n = input.read(&mut buf[len..])?;
-        if n == 0 || n > buf.len() - len {
-            break;
-        }
-        len += n;
-    }
-    Ok(len)
-}
-
-// Prints the report on standard input.
-fn run(rt: &HostRuntime) -> anyhow::Result<Report> {
-    let mut buf = [0u8; ROOM];
-    let len = read_all(&mut rt.stdin(), &mut buf)?;
-    let report = charge(&buf[0..len]);
-    rt.println(&report)?;
-    Ok(report)
+    let mut bytes = Vec::new(heap);
+    input.take(LONGEST as u64 + 1).read_to_end(&mut bytes)?;
+    Ok(bytes)
 }
 
 fn main(rt: HostRuntime) -> anyhow::Result<ExitCode> {
-    match run(&rt)? {
-        Report::Measured(_, _) => Ok(ExitCode::SUCCESS),
-        Report::Refused(_, _) => Ok(ExitCode::FAILURE),
+    let input = read_input(rt.stdin(), rt.alloc())?;
+    match charge(input.as_slice()) {
+        Ok(charge) => {
+            rt.println(charge)?;
+            Ok(ExitCode::SUCCESS)
+        }
+        Err(refused) => {
+            rt.println(refused)?;
+            Ok(ExitCode::FAILURE)
+        }
     }
 }

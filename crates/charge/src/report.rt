@@ -1,51 +1,70 @@
-ghost use Rattle.std.specs.Prelude.{◌≡◌, Some};
+ghost use Rattle.std.specs.Prelude.{◌≡◌, Ok, Err, Some};
 ghost use Rattle.charge.specs.Report.{report_of, line_of};
 
 use kinds::measure::{Figures, measure};
+use sources::fault::Refusal;
 use sources::held::Held;
 use sources::reason::Reason;
+use std::error::Error;
 use std::fmt;
 
 // The longest input.
-const LONGEST: usize = 65536;
+pub const LONGEST: usize = 65536;
 
-// What is printed of an input: its mappings and totals, or a refusal's number and line.
-#[derive(Clone, Copy)]
-pub enum Report {
-    Measured(u32, Figures),
-    Refused(u8, u32),
+// What an input is charged: its mappings and totals.
+#[derive(Debug, Drop)]
+pub struct Charged {
+    pub mappings: u32,
+    pub totals: Figures,
 }
 
-impl fmt::Display for Report {
-    ghost output = { λ r. Some (line_of r) };
+// Why an input is not charged.
+#[derive(Debug, Drop)]
+pub struct Refused(pub Refusal);
+
+impl fmt::Display for Charged {
+    ghost output = { λ c. Some (line_of (Ok c)) };
 
     fn fmt<W: fmt::Write>(&self, f: &mut fmt::Formatter<W>) -> fmt::Result {
-        match *self {
-            Report::Measured(mappings, totals) => {
-                let rss = totals.rss;
-                let pss = totals.pss;
-                let swap_pss = totals.swap_pss;
-                write!(
-                    f,
-                    "mappings {mappings} rss {rss} pss {pss} swappss {swap_pss}"
-                )
-            }
-            Report::Refused(number, line) => write!(f, "refused {number} line {line}"),
-        }
+        let mappings = self.mappings;
+        let Figures { rss, pss, swap_pss } = self.totals;
+        write!(
+            f,
+            "mappings {mappings} rss {rss} pss {pss} swappss {swap_pss}"
+        )
     }
 }
 
-// The report on an input, read as smaps text.
-pub fn charge(input: &[u8]) -> Report
+impl fmt::Display for Refused {
+    ghost output = { λ r. Some (line_of (Err r)) };
+
+    fn fmt<W: fmt::Write>(&self, f: &mut fmt::Formatter<W>) -> fmt::Result {
+        write!(f, "refused {} line {}", self.0.reason.number(), self.0.line)
+    }
+}
+
+impl Error for Refused {}
+
+impl From<Refusal> for Refused {
+    ghost from_gives = { λ f r. r ≡ record { 0 = f } };
+
+    fn from(refusal: Refusal) -> Refused {
+        Refused(refusal)
+    }
+}
+
+// The charge of an input, read as smaps text.
+pub fn charge(input: &[u8]) -> Result<Charged, Refused>
     ensures { result ≡ report_of input.now }
 {
     if input.len() > LONGEST {
-        return Report::Refused(Reason::LongText.number(), 0);
+        return Err(Refused(Refusal::new(Reason::LongText, 0)));
     }
-    match measure(&mut Held::new(input)) {
-        Ok(closed) => Report::Measured(closed.mappings(), closed.totals()),
-        Err(refusal) => Report::Refused(refusal.reason.number(), refusal.line),
-    }
+    let closed = measure(&mut Held::new(input))?;
+    Ok(Charged {
+        mappings: closed.mappings(),
+        totals: closed.totals(),
+    })
 }
 
 #[cfg(test)]
@@ -56,12 +75,12 @@ mod tests {
 
     // The line that is printed of an input of `n` bytes 65, and then `end`.
     fn printed(heap: Global, n: usize, end: &[u8]) -> Result<String, AllocError> {
-        let mut input = Vec::new(heap);
-        for _ in 0..n {
-            input.push(b'A')?;
-        }
+        let mut input = vec![in heap; b'A'; n]?;
         input.extend_from_slice(end)?;
-        charge(input.as_slice()).to_string(heap)
+        match charge(input.as_slice()) {
+            Ok(charge) => charge.to_string(heap),
+            Err(refused) => refused.to_string(heap),
+        }
     }
 
     #[test]

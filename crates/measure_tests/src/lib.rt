@@ -10,50 +10,39 @@ mod tests {
     use sources::fault::Refusal;
     use sources::held::Held;
     use sources::join::Join;
+    use sources::reason::Reason;
     use sources::source::{Piece, Source};
     use sources::spool::Spool;
-    use std::alloc::{AllocError, Global};
     use std::test::Fail;
 
-    // A measure as numbers: 0 and the figures, or a refusal's number, its line and its field.
-    fn told(r: Result<Closed, Refusal>) -> (u8, u64, u64, u64, u64) {
-        match r {
-            Ok(c) => {
-                let t = c.totals();
-                (0, u64::from(c.mappings()), t.rss, t.pss, t.swap_pss)
-            }
-            Err(f) => (
-                f.reason.number(),
-                u64::from(f.line),
-                u64::from(f.field),
-                0,
-                0,
-            ),
-        }
+    // A measure as its mappings and totals: Rss, Pss, SwapPss.
+    fn told(r: Result<Closed, Refusal>) -> Result<(u32, u64, u64, u64), Refusal> {
+        let closed = r?;
+        let t = closed.totals();
+        Ok((closed.mappings(), t.rss, t.pss, t.swap_pss))
     }
 
-    // One record more of a recording.
-    fn record(recording: &mut Vec<u8>, text: &[u8], mark: u8) -> Result<(), AllocError> {
+    // A record of a recording: the first 62 bytes of a text, and a mark.
+    fn record(text: &[u8], mark: u8) -> [u8; 64] {
         let n = text.len().min(62);
-        recording.push((n & 0x3f) as u8)?;
-        recording.push(mark)?;
-        for b in text.iter().take(n) {
-            recording.push(*b)?;
-        }
-        for _ in n..62 {
-            recording.push(0)?;
-        }
-        Ok(())
+        let mut record = [0; 64];
+        record[0] = n as u8;
+        record[1] = mark;
+        record[2..2 + n].copy_from_slice(&text[..n]);
+        record
     }
 
-    fn spooled(recording: &[u8]) -> (u8, u64, u64, u64, u64) {
-        match Spool::new(recording) {
-            Ok(spool) => {
-                let mut spool = spool;
-                told(measure(&mut spool))
-            }
-            Err(f) => told(Err(f)),
-        }
+    // A last record that says `n` text bytes, and has a byte 120 everywhere behind them.
+    fn counted(n: u8) -> [u8; 64] {
+        let mut record = [120; 64];
+        record[0] = n;
+        record[1] = 1;
+        record
+    }
+
+    fn spooled(recording: &[u8]) -> Result<(u32, u64, u64, u64), Refusal> {
+        let mut spool = Spool::new(recording)?;
+        told(measure(&mut spool))
     }
 
     #[test]
@@ -74,56 +63,44 @@ mod tests {
 
     #[test]
     fn recordings(rt: HostRuntime) -> Result<(), Fail> {
+        let bad = Err(Refusal::new(Reason::Spool, 0));
         let mut whole = Vec::new(rt.alloc());
-        record(&mut whole, b"1-2 r 0 0:0 0 \nPss: 1", 0)?;
-        record(&mut whole, b"", 0)?;
-        assert_eq!(rt; spooled(whole.as_slice()), (22, 0, 0, 0, 0));
-        record(&mut whole, b"2\nSwapPss: 5\n", 1)?;
-        assert_eq!(rt; spooled(whole.as_slice()), (0, 1, 0, 12, 5));
-        record(&mut whole, b"", 1)?;
-        assert_eq!(rt; spooled(whole.as_slice()), (22, 0, 0, 0, 0));
+        whole.extend_from_slice(&record(b"1-2 r 0 0:0 0 \nPss: 1", 0))?;
+        whole.extend_from_slice(&record(b"", 0))?;
+        assert_eq!(rt; spooled(whole.as_slice()), bad);
+        whole.extend_from_slice(&record(b"2\nSwapPss: 5\n", 1))?;
+        assert_eq!(rt; spooled(whole.as_slice()), Ok((1, 0, 12, 5)));
+        whole.extend_from_slice(&record(b"", 1))?;
+        assert_eq!(rt; spooled(whole.as_slice()), bad);
         Ok(())
     }
 
     // A rest before a broken ending is lost, also where more is joined to it.
     #[test]
     fn broken_recording(rt: HostRuntime) -> Result<(), Fail> {
-        let mut torn = Vec::new(rt.alloc());
-        record(&mut torn, b"1-2 r 0 0:0 0 \nPss: 1", 2)?;
-        assert_eq!(rt; spooled(torn.as_slice()), (1, 2, 0, 0, 0));
-        let mut both = Join::new(Spool::new(torn.as_slice())?, Held::new(b"\nRss: 1\n"));
-        assert_eq!(rt; told(measure(&mut both)), (1, 2, 0, 0, 0));
+        let torn = record(b"1-2 r 0 0:0 0 \nPss: 1", 2);
+        let broken = Err(Refusal::new(Reason::Broken, 2));
+        assert_eq!(rt; spooled(&torn), broken);
+        let mut both = Join::new(Spool::new(&torn)?, Held::new(b"\nRss: 1\n"));
+        assert_eq!(rt; told(measure(&mut both)), broken);
         Ok(())
     }
 
     #[test]
     fn bad_records(rt: HostRuntime) -> Result<(), Fail> {
-        let heap = rt.alloc();
-        let mut one = Vec::new(heap);
-        assert_eq!(rt; spooled(one.as_slice()), (22, 0, 0, 0, 0));
-        record(&mut one, b"a", 3)?;
-        assert_eq!(rt; spooled(one.as_slice()), (22, 0, 0, 0, 0));
-        one.clear();
-        record(&mut one, b"a", 1)?;
-        assert_eq!(rt; spooled(one.as_slice()), (5, 1, 0, 0, 0));
+        let bad = Err(Refusal::new(Reason::Spool, 0));
+        let short = Err(Refusal::new(Reason::Short, 1));
+        assert_eq!(rt; spooled(&[]), bad);
+        assert_eq!(rt; spooled(&record(b"a", 3)), bad);
+        let mut one = record(b"a", 1).to_vec(rt.alloc())?;
+        assert_eq!(rt; spooled(one.as_slice()), short);
         one.push(0)?;
-        assert_eq!(rt; spooled(one.as_slice()), (22, 0, 0, 0, 0));
+        assert_eq!(rt; spooled(one.as_slice()), bad);
         // 63 text bytes, and a byte behind the text that is not 0
-        assert_eq!(rt; spooled(counted(heap, 63)?.as_slice()), (22, 0, 0, 0, 0));
-        assert_eq!(rt; spooled(counted(heap, 62)?.as_slice()), (5, 1, 0, 0, 0));
-        assert_eq!(rt; spooled(counted(heap, 61)?.as_slice()), (22, 0, 0, 0, 0));
+        assert_eq!(rt; spooled(&counted(63)), bad);
+        assert_eq!(rt; spooled(&counted(62)), short);
+        assert_eq!(rt; spooled(&counted(61)), bad);
         Ok(())
-    }
-
-    // A last record that says `n` text bytes, and has a byte 120 everywhere behind them.
-    fn counted(heap: Global, n: u8) -> Result<Vec<u8>, AllocError> {
-        let mut r = Vec::new(heap);
-        r.push(n)?;
-        r.push(1)?;
-        for _ in 0..62 {
-            r.push(120)?;
-        }
-        Ok(r)
     }
 
     #[test]
@@ -167,6 +144,6 @@ mod tests {
     fn joins(rt: HostRuntime) {
         let first = Join::new(Held::new(b"1-2 r 0 0:0 0 \nRss"), Held::new(b": 4 k"));
         let mut all = Join::new(first, Held::new(b"B\n1-2 r 0 0:0 0 \nRss: 1\n"));
-        assert_eq!(rt; told(measure(&mut all)), (0, 2, 4097, 0, 0));
+        assert_eq!(rt; told(measure(&mut all)), Ok((2, 4097, 0, 0)));
     }
 }

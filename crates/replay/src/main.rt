@@ -9,89 +9,84 @@
 mod status_text;
 mod text;
 
-use anyhow::anyhow;
-use kinds::measure::{Closed, measure};
-use sources::fault::Refusal;
+use anyhow::Context;
+use kinds::measure::{Figures, measure};
 use sources::held::Held;
+use sources::reason::Reason;
 use std::alloc::{AllocError, Global};
+use std::rt::Files;
 use std::{env, fs};
 use text::unescaped;
 
-fn answer(heap: Global, r: &Result<Closed, Refusal>) -> Result<String, AllocError> {
-    match r {
-        Ok(c) => {
-            let mappings = c.mappings();
-            let totals = c.totals();
-            let rss = totals.rss;
-            let pss = totals.pss;
-            let swap_pss = totals.swap_pss;
-            format!(in heap; "ok {mappings} {rss} {pss} {swap_pss}")
-        }
-        Err(f) => {
-            let number = f.reason.number();
-            let line = f.line;
-            format!(in heap; "refused {number} {line}")
-        }
+// What a text is answered: a line as lists have it, and why it was refused, where a class of error may be expected instead.
+#[derive(Drop)]
+struct Answer {
+    line: String,
+    reason: Option<Reason>,
+}
+
+impl Answer {
+    fn meets(&self, expected: &str) -> bool {
+        self.line.as_str() == expected || self.reason.and_then(class) == Some(expected)
     }
 }
 
 // The class of error that procfs-core answers where this is refused.
-fn class(r: &Result<Closed, Refusal>) -> Option<&'static str> {
-    let Err(f) = r else {
-        return None;
-    };
-    match f.reason.number() {
-        1 | 4 => Some("incomplete"),
-        5 => Some("short"),
-        6 => Some("figure"),
-        7 => Some("other"),
+fn class(reason: Reason) -> Option<&'static str> {
+    match reason {
+        Reason::Broken | Reason::Orphan => Some("incomplete"),
+        Reason::Short => Some("short"),
+        Reason::Figure => Some("figure"),
+        Reason::Value => Some("other"),
         _ => None,
     }
 }
 
+// The answer to a text that is read as a measure.
+fn measure_answer(heap: Global, text: &[u8]) -> Result<Answer, AllocError> {
+    let (line, reason) = match measure(&mut Held::new(text)) {
+        Ok(closed) => {
+            let mappings = closed.mappings();
+            let Figures { rss, pss, swap_pss } = closed.totals();
+            let line = format!(in heap; "ok {mappings} {rss} {pss} {swap_pss}")?;
+            (line, None)
+        }
+        Err(refusal) => {
+            let number = refusal.reason.number();
+            let line = format!(in heap; "refused {number} {}", refusal.line)?;
+            (line, Some(refusal.reason))
+        }
+    };
+    Ok(Answer { line, reason })
+}
+
 // How the texts of a list are read.
-#[derive(Clone, Copy)]
-enum Reading {
-    Measure,
-    Status,
-}
+type Reading = fn(Global, &[u8]) -> Result<Answer, AllocError>;
 
-// Whether a line of a list is answered as it expects.
-fn agrees(rt: &HostRuntime, reading: Reading, line: &str) -> anyhow::Result<bool> {
-    let heap = rt.alloc();
-    let Some((escaped, expected)) = line.split_once('\t') else {
-        return Err(anyhow!("a line without a tab"));
-    };
+// What a line of a list is answered, where that is not what it expects.
+fn difference(heap: Global, read: Reading, line: &str) -> anyhow::Result<Option<Answer>>
+    requires { IsAlwaysCallable read }
+{
+    let (escaped, expected) = line.split_once('\t').context("a line without a tab")?;
     let text = unescaped(heap, escaped.as_bytes())?;
-    let told = match reading {
-        Reading::Measure => {
-            let r = measure(&mut Held::new(text.as_slice()));
-            let told = answer(heap, &r)?;
-            if told.as_str() == expected || class(&r) == Some(expected) {
-                return Ok(true);
-            }
-            told
-        }
-        Reading::Status => {
-            let told = status_text::answer(heap, text.as_slice())?;
-            if told.as_str() == expected {
-                return Ok(true);
-            }
-            told
-        }
-    };
-    rt.println(line)?;
-    rt.println(told.as_str())?;
-    Ok(false)
+    let answer = read(heap, text.as_slice())?;
+    if answer.meets(expected) {
+        return Ok(None);
+    }
+    Ok(Some(answer))
 }
 
-fn replay(rt: &HostRuntime, reading: Reading, name: &str) -> anyhow::Result<()> {
+// Prints each line of a list that is not answered as it expects, with its answer, and then how many there are.
+fn replay(rt: &(impl Files + Print + AllocGlobal), read: Reading, name: &str) -> anyhow::Result<()>
+    requires { IsAlwaysCallable read }
+{
     let list = fs::read_to_string(rt, name)?;
-    let mut texts: u64 = 0;
-    let mut differ: u64 = 0;
+    let texts = list.as_str().lines().count();
+    let mut differ = 0u64;
     for line in list.as_str().lines() {
-        texts = texts.saturating_add(1);
-        if !agrees(rt, reading, line)? {
+        if let Some(answer) = difference(rt.alloc(), read, line)? {
+            rt.println(line)?;
+            rt.println(answer.line.as_str())?;
             differ = differ.saturating_add(1);
         }
     }
@@ -99,18 +94,14 @@ fn replay(rt: &HostRuntime, reading: Reading, name: &str) -> anyhow::Result<()> 
     Ok(())
 }
 
-fn run(rt: &HostRuntime) -> anyhow::Result<()> {
-    let mut reading = Reading::Measure;
-    for word in env::args(rt)?.skip(1) {
+fn main(rt: HostRuntime) -> anyhow::Result<()> {
+    let mut read: Reading = measure_answer;
+    for word in env::args(&rt)?.skip(1) {
         match word.as_str() {
-            "measure" => reading = Reading::Measure,
-            "status" => reading = Reading::Status,
-            name => replay(rt, reading, name)?,
+            "measure" => read = measure_answer,
+            "status" => read = status_text::answer,
+            name => replay(&rt, read, name)?,
         }
     }
     Ok(())
-}
-
-fn main(rt: HostRuntime) -> anyhow::Result<()> {
-    run(&rt)
 }

@@ -1,109 +1,108 @@
-// The answer to a status text, as lists have it: `ok` and the 61 fields in order, or `refused`.
+// The answer to a status text: `ok` and the 61 fields in order, or `refused`.
+use crate::Answer;
 use fields::counted::Counted;
 use kinds::status_text::read_status;
-use sources::fault::Refusal;
 use sources::held::Held;
 use status::record::Status;
-use std::alloc::Global;
-use std::fmt::{Display, Write};
+use std::alloc::{AllocError, Global};
+use std::fmt;
+use std::fmt::{Display, Formatter};
 
-fn put<T: Display>(out: &mut String, v: &T) -> anyhow::Result<()> {
-    write!(out, " {v}")?;
-    Ok(())
-}
+// A value, or `-` where there is none.
+#[derive(Clone, Copy)]
+struct OrDash<T>(Option<T>);
 
-fn put_option<T: Display + Copy>(out: &mut String, o: Option<T>) -> anyhow::Result<()> {
-    match o {
-        Some(v) => put(out, &v),
-        None => put(out, &"-"),
-    }
-}
-
-fn put_text(out: &mut String, bytes: &[u8]) -> anyhow::Result<()> {
-    out.push_str(" \"")?;
-    for b in bytes {
-        let b = *b;
-        match b {
-            b'\\' => out.push_str("\\\\")?,
-            b'!' | b'#'..=b'~' => out.push(char::from(b))?,
-            _ => write!(out, "\\x{b:02x}")?,
+impl<T: Display> Display for OrDash<T> {
+    fn fmt<W: fmt::Write>(&self, f: &mut Formatter<W>) -> fmt::Result {
+        match &self.0 {
+            Some(value) => write!(f, "{value}"),
+            None => f.write_str("-"),
         }
     }
-    out.push_str("\"")?;
-    Ok(())
 }
 
-fn put_list<T: Display + Copy>(out: &mut String, items: &[T]) -> anyhow::Result<()> {
-    out.push_str(" [")?;
-    let mut first = true;
-    for v in items {
-        if !first {
-            out.push_str(",")?;
+// Bytes between quotes: a backslash twice, and what is no printed ASCII character in base 16.
+#[derive(Clone, Copy)]
+struct Quoted<'a>(&'a [u8]);
+
+impl Display for Quoted<'_> {
+    fn fmt<W: fmt::Write>(&self, f: &mut Formatter<W>) -> fmt::Result {
+        f.write_str("\"")?;
+        for &b in self.0 {
+            match b {
+                b'\\' => f.write_str("\\\\")?,
+                b'!' | b'#'..=b'~' => f.write_char(char::from(b))?,
+                _ => write!(f, "\\x{b:02x}")?,
+            }
         }
-        first = false;
-        write!(out, "{v}")?;
-    }
-    out.push_str("]")?;
-    Ok(())
-}
-
-fn put_spaces(out: &mut String, list: &Option<Counted<i32, 32>>) -> anyhow::Result<()> {
-    match list {
-        Some(list) => put_list(out, list.items()),
-        None => put(out, &"-"),
+        f.write_str("\"")
     }
 }
 
-fn put_mask(out: &mut String, list: &Option<Counted<u32, 256>>) -> anyhow::Result<()> {
-    match list {
-        Some(list) => put_list(out, list.items()),
-        None => put(out, &"-"),
+// A range, by its first and its last.
+#[derive(Clone, Copy)]
+struct Span((u32, u32));
+
+impl Display for Span {
+    fn fmt<W: fmt::Write>(&self, f: &mut Formatter<W>) -> fmt::Result {
+        let (first, last) = self.0;
+        write!(f, "{first}-{last}")
     }
 }
 
-fn put_ranges(out: &mut String, list: &Option<Counted<(u32, u32), 128>>) -> anyhow::Result<()> {
-    let Some(list) = list else {
-        return put(out, &"-");
+fn items<T: Copy, const N: usize>(list: &Option<Counted<T, N>>) -> Option<&[T]> {
+    list.as_ref().map(Counted::items)
+}
+
+// A list in brackets, with commas between its items as `shown` has them, or `-` where there is none.
+fn put_list<W: fmt::Write, T, D: Display + Drop, F: Fn(&T) -> D>(
+    f: &mut Formatter<W>,
+    list: Option<&[T]>,
+    shown: F,
+) -> fmt::Result
+    requires { F.IsAlwaysCallable shown }
+{
+    let Some(items) = list else {
+        return f.write_str(" -");
     };
-    out.push_str(" [")?;
-    let mut first = true;
-    for range in list.items() {
-        if !first {
-            out.push_str(",")?;
+    f.write_str(" [")?;
+    if let Some((first, others)) = items.split_first() {
+        write!(f, "{}", shown(first))?;
+        for item in others {
+            write!(f, ",{}", shown(item))?;
         }
-        first = false;
-        let a = range.0;
-        let b = range.1;
-        write!(out, "{a}-{b}")?;
     }
-    out.push_str("]")?;
-    Ok(())
+    f.write_str("]")
 }
 
-fn put_ids(out: &mut String, s: &Status) -> anyhow::Result<()> {
-    put_text(out, s.name.items())?;
-    put_option(out, s.umask)?;
-    put_text(out, s.state.items())?;
-    put(out, &s.tgid)?;
-    put_option(out, s.ngid)?;
-    put(out, &s.pid)?;
-    put(out, &s.ppid)?;
-    put(out, &s.tracerpid)?;
-    for id in [
-        s.ruid, s.euid, s.suid, s.fuid, s.rgid, s.egid, s.sgid, s.fgid,
-    ] {
-        put(out, &id)?;
+// The fields of a record in order, each after a space.
+#[derive(Clone, Copy)]
+struct Fields<'a>(&'a Status);
+
+impl Display for Fields<'_> {
+    fn fmt<W: fmt::Write>(&self, f: &mut Formatter<W>) -> fmt::Result {
+        put_ids(f, self.0)?;
+        put_memory(f, self.0)?;
+        put_signals(f, self.0)?;
+        put_others(f, self.0)
     }
-    Ok(())
 }
 
-fn put_memory(out: &mut String, s: &Status) -> anyhow::Result<()> {
-    put(out, &s.fdsize)?;
-    put_list(out, s.groups.items())?;
-    put_spaces(out, &s.nstgid)?;
-    put_spaces(out, &s.nspid)?;
-    put_spaces(out, &s.nspgid)?;
-    put_spaces(out, &s.nssid)?;
+fn put_ids<W: fmt::Write>(f: &mut Formatter<W>, s: &Status) -> fmt::Result {
+    write!(f, " {} {}", Quoted(s.name.items()), OrDash(s.umask))?;
+    write!(f, " {} {}", Quoted(s.state.items()), s.tgid)?;
+    write!(f, " {} {}", OrDash(s.ngid), s.pid)?;
+    write!(f, " {} {}", s.ppid, s.tracerpid)?;
+    write!(f, " {} {} {} {}", s.ruid, s.euid, s.suid, s.fuid)?;
+    write!(f, " {} {} {} {}", s.rgid, s.egid, s.sgid, s.fgid)
+}
+
+fn put_memory<W: fmt::Write>(f: &mut Formatter<W>, s: &Status) -> fmt::Result {
+    write!(f, " {}", s.fdsize)?;
+    put_list(f, Some(s.groups.items()), |id| *id)?;
+    for list in [&s.nstgid, &s.nspid, &s.nspgid, &s.nssid] {
+        put_list(f, items(list), |id| *id)?;
+    }
     for size in [
         s.vmpeak,
         s.vmsize,
@@ -122,61 +121,42 @@ fn put_memory(out: &mut String, s: &Status) -> anyhow::Result<()> {
         s.vmswap,
         s.hugetlbpages,
     ] {
-        put_option(out, size)?;
+        write!(f, " {}", OrDash(size))?;
     }
     Ok(())
 }
 
-fn put_signals(out: &mut String, s: &Status) -> anyhow::Result<()> {
-    put(out, &s.threads)?;
-    let queued = s.sigq.0;
-    let limit = s.sigq.1;
-    write!(out, " {queued}/{limit}")?;
+fn put_signals<W: fmt::Write>(f: &mut Formatter<W>, s: &Status) -> fmt::Result {
+    write!(f, " {} {}/{}", s.threads, s.sigq.0, s.sigq.1)?;
     for mask in [
         s.sigpnd, s.shdpnd, s.sigblk, s.sigign, s.sigcgt, s.capinh, s.capprm, s.capeff,
     ] {
-        put(out, &mask)?;
+        write!(f, " {mask}")?;
     }
-    put_option(out, s.capbnd)?;
-    put_option(out, s.capamb)?;
-    put_option(out, s.nonewprivs)?;
-    put_option(out, s.seccomp)
+    write!(f, " {} {}", OrDash(s.capbnd), OrDash(s.capamb))?;
+    write!(f, " {} {}", OrDash(s.nonewprivs), OrDash(s.seccomp))
 }
 
-fn put_others(out: &mut String, s: &Status) -> anyhow::Result<()> {
-    match &s.speculation_store_bypass {
-        Some(text) => put_text(out, text.items())?,
-        None => put(out, &"-")?,
-    }
-    put_mask(out, &s.cpus_allowed)?;
-    put_ranges(out, &s.cpus_allowed_list)?;
-    put_mask(out, &s.mems_allowed)?;
-    put_ranges(out, &s.mems_allowed_list)?;
-    put_option(out, s.voluntary_ctxt_switches)?;
-    put_option(out, s.nonvoluntary_ctxt_switches)?;
-    put_option(out, s.core_dumping)?;
-    put_option(out, s.thp_enabled)
+fn put_others<W: fmt::Write>(f: &mut Formatter<W>, s: &Status) -> fmt::Result {
+    let bypass = s.speculation_store_bypass.as_ref();
+    write!(f, " {}", OrDash(bypass.map(|text| Quoted(text.items()))))?;
+    put_list(f, items(&s.cpus_allowed), |mask| *mask)?;
+    put_list(f, items(&s.cpus_allowed_list), |range| Span(*range))?;
+    put_list(f, items(&s.mems_allowed), |mask| *mask)?;
+    put_list(f, items(&s.mems_allowed_list), |range| Span(*range))?;
+    write!(f, " {}", OrDash(s.voluntary_ctxt_switches))?;
+    write!(f, " {}", OrDash(s.nonvoluntary_ctxt_switches))?;
+    write!(f, " {} {}", OrDash(s.core_dumping), OrDash(s.thp_enabled))
 }
 
-// What is refused: number, line and field.
-pub fn refused(heap: Global, f: &Refusal) -> anyhow::Result<String> {
-    let number = f.reason.number();
-    let line = f.line;
-    let field = f.field;
-    Ok(format!(in heap; "refused {number} {line} {field}")?)
-}
-
-pub fn answer(heap: Global, text: &[u8]) -> anyhow::Result<String> {
+pub fn answer(heap: Global, text: &[u8]) -> Result<Answer, AllocError> {
     let mut record = Status::blank();
-    match read_status(&mut Held::new(text), &mut record) {
-        Ok(()) => {
-            let mut out = String::from_str(heap, "ok")?;
-            put_ids(&mut out, &record)?;
-            put_memory(&mut out, &record)?;
-            put_signals(&mut out, &record)?;
-            put_others(&mut out, &record)?;
-            Ok(out)
+    let line = match read_status(&mut Held::new(text), &mut record) {
+        Ok(()) => format!(in heap; "ok{}", Fields(&record))?,
+        Err(refusal) => {
+            let number = refusal.reason.number();
+            format!(in heap; "refused {number} {} {}", refusal.line, refusal.field)?
         }
-        Err(f) => refused(heap, &f),
-    }
+    };
+    Ok(Answer { line, reason: None })
 }
