@@ -1,5 +1,5 @@
-ghost use Rattle.std.specs.Prelude.{◌≡◌, min, ◌++◌, length, take, drop};
-ghost use Rattle.fields.specs.Counted.{text_of};
+ghost use Rattle.std.specs.Prelude.{◌≡◌, [], min, ◌++◌, length, take, drop};
+ghost use Rattle.fields.specs.Counted.{counted, text_of};
 
 // A list of at most N items: the first `len` cells count, and the others are blank.
 #[derive(Clone, Copy)]
@@ -10,6 +10,18 @@ pub struct Counted<T, const N: usize> {
 
 // The bytes of a text, which fit where the line that it stands on does.
 pub type Text = Counted<u8, 4096>;
+
+// The empty list.
+impl<T: Default + Copy, const N: usize> Default for Counted<T, N> {
+    ghost is_default = { λ list. (blank : T) × T.is_default blank × (list ≡ counted N blank []) };
+
+    fn default() -> Counted<T, N> {
+        Counted {
+            cells: [T::default(); N],
+            len: 0,
+        }
+    }
+}
 
 impl<T: Copy, const N: usize> Counted<T, N> {
     pub fn items(&self) -> &[T]
