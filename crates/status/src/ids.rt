@@ -8,7 +8,7 @@ use sources::fault::Fault;
 use sources::number::Radix;
 
 // Slots of the name, the state and the numbers of a process.
-#[derive(Clone, Copy)]
+#[derive(Clone, Copy, Default)]
 pub struct IdsSlots {
     pub(crate) name: Slot<Text>,
     pub(crate) umask: Slot<u32>,

@@ -6,7 +6,7 @@ use fields::value::kilobytes;
 use sources::fault::Fault;
 
 // Slots of figures of memory, in kB.
-#[derive(Clone, Copy)]
+#[derive(Clone, Copy, Default)]
 pub struct MemorySlots {
     pub(crate) vmpeak: Slot<u64>,
     pub(crate) vmsize: Slot<u64>,

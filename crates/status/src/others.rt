@@ -8,7 +8,7 @@ use sources::fault::Fault;
 use sources::number::Radix;
 
 // Slots of privileges, processors, memory nodes, switches and flags.
-#[derive(Clone, Copy)]
+#[derive(Clone, Copy, Default)]
 pub struct OthersSlots {
     pub(crate) nonewprivs: Slot<u64>,
     pub(crate) seccomp: Slot<u32>,

@@ -6,7 +6,7 @@ use fields::value::{Four, read_four};
 use sources::fault::Fault;
 
 // Slots of the owner of a process.
-#[derive(Clone, Copy)]
+#[derive(Clone, Copy, Default)]
 pub struct OwnerSlots {
     pub(crate) uid: Slot<Four>,
     pub(crate) gid: Slot<Four>,

@@ -11,7 +11,7 @@ use fields::counted::{Counted, Text, copied};
 use sources::fault::Fault;
 
 // What /proc/PID/status says of a process, field by field; sizes are in kB. docs/STATUS.md has what each field is.
-#[derive(Clone, Copy)]
+#[derive(Clone, Copy, Default)]
 pub struct Status {
     pub name: Text,
     pub umask: Option<u32>,
@@ -77,7 +77,7 @@ pub struct Status {
 }
 
 // A slot for each line's name, by topic; the topics are contiguous in the order of the fields.
-#[derive(Clone, Copy)]
+#[derive(Clone, Copy, Default)]
 pub struct StatusSlots {
     ids: IdsSlots,
     owner: OwnerSlots,
@@ -91,75 +91,7 @@ impl StatusSlots {
     pub fn new() -> StatusSlots
         ensures { result ≡ fresh_slots }
     {
-        StatusSlots {
-            ids: IdsSlots {
-                name: None,
-                umask: None,
-                state: None,
-                tgid: None,
-                ngid: None,
-                pid: None,
-                ppid: None,
-                tracerpid: None,
-            },
-            owner: OwnerSlots {
-                uid: None,
-                gid: None,
-            },
-            spaces: SpacesSlots {
-                fdsize: None,
-                groups: None,
-                nstgid: None,
-                nspid: None,
-                nspgid: None,
-                nssid: None,
-            },
-            memory: MemorySlots {
-                vmpeak: None,
-                vmsize: None,
-                vmlck: None,
-                vmpin: None,
-                vmhwm: None,
-                vmrss: None,
-                rssanon: None,
-                rssfile: None,
-                rssshmem: None,
-                vmdata: None,
-                vmstk: None,
-                vmexe: None,
-                vmlib: None,
-                vmpte: None,
-                vmswap: None,
-                hugetlbpages: None,
-            },
-            signals: SignalsSlots {
-                threads: None,
-                sigq: None,
-                sigpnd: None,
-                shdpnd: None,
-                sigblk: None,
-                sigign: None,
-                sigcgt: None,
-                capinh: None,
-                capprm: None,
-                capeff: None,
-                capbnd: None,
-                capamb: None,
-            },
-            others: OthersSlots {
-                nonewprivs: None,
-                seccomp: None,
-                speculation_store_bypass: None,
-                cpus_allowed: None,
-                cpus_allowed_list: None,
-                mems_allowed: None,
-                mems_allowed_list: None,
-                voluntary_ctxt_switches: None,
-                nonvoluntary_ctxt_switches: None,
-                core_dumping: None,
-                thp_enabled: None,
-            },
-        }
+        StatusSlots::default()
     }
 
     // After a line that sets the field `number`.
@@ -255,71 +187,6 @@ impl Status {
     pub fn blank() -> Status
         ensures { result ≡ blank_status }
     {
-        Status {
-            name: copied(""),
-            umask: None,
-            state: copied(""),
-            tgid: 0,
-            ngid: None,
-            pid: 0,
-            ppid: 0,
-            tracerpid: 0,
-            ruid: 0,
-            euid: 0,
-            suid: 0,
-            fuid: 0,
-            rgid: 0,
-            egid: 0,
-            sgid: 0,
-            fgid: 0,
-            fdsize: 0,
-            groups: Counted {
-                cells: [0; 128],
-                len: 0,
-            },
-            nstgid: None,
-            nspid: None,
-            nspgid: None,
-            nssid: None,
-            vmpeak: None,
-            vmsize: None,
-            vmlck: None,
-            vmpin: None,
-            vmhwm: None,
-            vmrss: None,
-            rssanon: None,
-            rssfile: None,
-            rssshmem: None,
-            vmdata: None,
-            vmstk: None,
-            vmexe: None,
-            vmlib: None,
-            vmpte: None,
-            vmswap: None,
-            hugetlbpages: None,
-            threads: 0,
-            sigq: (0, 0),
-            sigpnd: 0,
-            shdpnd: 0,
-            sigblk: 0,
-            sigign: 0,
-            sigcgt: 0,
-            capinh: 0,
-            capprm: 0,
-            capeff: 0,
-            capbnd: None,
-            capamb: None,
-            nonewprivs: None,
-            seccomp: None,
-            speculation_store_bypass: None,
-            cpus_allowed: None,
-            cpus_allowed_list: None,
-            mems_allowed: None,
-            mems_allowed_list: None,
-            voluntary_ctxt_switches: None,
-            nonvoluntary_ctxt_switches: None,
-            core_dumping: None,
-            thp_enabled: None,
-        }
+        Status::default()
     }
 }

@@ -7,7 +7,7 @@ use sources::fault::Fault;
 use sources::number::Radix;
 
 // Slots of threads, signals and capabilities.
-#[derive(Clone, Copy)]
+#[derive(Clone, Copy, Default)]
 pub struct SignalsSlots {
     pub(crate) threads: Slot<u64>,
     pub(crate) sigq: Slot<(u64, u64)>,

@@ -8,7 +8,7 @@ use sources::fault::Fault;
 use sources::number::Radix;
 
 // Slots of descriptors, groups and name spaces.
-#[derive(Clone, Copy)]
+#[derive(Clone, Copy, Default)]
 pub struct SpacesSlots {
     pub(crate) fdsize: Slot<u32>,
     pub(crate) groups: Slot<Counted<u32, 128>>,
