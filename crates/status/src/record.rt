@@ -110,75 +110,14 @@ impl StatusSlots {
     pub(crate) fn record(&self) -> Result<Status, Fault>
         ensures { result ≡ judged_slots self.now }
     {
-        let ids = self.ids.judge()?;
-        let owner = self.owner.judge()?;
-        let spaces = self.spaces.judge()?;
-        let memory = self.memory.judge()?;
-        let signals = self.signals.judge()?;
-        let others = self.others.judge()?;
-        Ok(Status {
-            name: ids.name,
-            umask: ids.umask,
-            state: ids.state,
-            tgid: ids.tgid,
-            ngid: ids.ngid,
-            pid: ids.pid,
-            ppid: ids.ppid,
-            tracerpid: ids.tracerpid,
-            ruid: owner.ruid,
-            euid: owner.euid,
-            suid: owner.suid,
-            fuid: owner.fuid,
-            rgid: owner.rgid,
-            egid: owner.egid,
-            sgid: owner.sgid,
-            fgid: owner.fgid,
-            fdsize: spaces.fdsize,
-            groups: spaces.groups,
-            nstgid: spaces.nstgid,
-            nspid: spaces.nspid,
-            nspgid: spaces.nspgid,
-            nssid: spaces.nssid,
-            vmpeak: memory.vmpeak,
-            vmsize: memory.vmsize,
-            vmlck: memory.vmlck,
-            vmpin: memory.vmpin,
-            vmhwm: memory.vmhwm,
-            vmrss: memory.vmrss,
-            rssanon: memory.rssanon,
-            rssfile: memory.rssfile,
-            rssshmem: memory.rssshmem,
-            vmdata: memory.vmdata,
-            vmstk: memory.vmstk,
-            vmexe: memory.vmexe,
-            vmlib: memory.vmlib,
-            vmpte: memory.vmpte,
-            vmswap: memory.vmswap,
-            hugetlbpages: memory.hugetlbpages,
-            threads: signals.threads,
-            sigq: signals.sigq,
-            sigpnd: signals.sigpnd,
-            shdpnd: signals.shdpnd,
-            sigblk: signals.sigblk,
-            sigign: signals.sigign,
-            sigcgt: signals.sigcgt,
-            capinh: signals.capinh,
-            capprm: signals.capprm,
-            capeff: signals.capeff,
-            capbnd: signals.capbnd,
-            capamb: signals.capamb,
-            nonewprivs: others.nonewprivs,
-            seccomp: others.seccomp,
-            speculation_store_bypass: others.speculation_store_bypass,
-            cpus_allowed: others.cpus_allowed,
-            cpus_allowed_list: others.cpus_allowed_list,
-            mems_allowed: others.mems_allowed,
-            mems_allowed_list: others.mems_allowed_list,
-            voluntary_ctxt_switches: others.voluntary_ctxt_switches,
-            nonvoluntary_ctxt_switches: others.nonvoluntary_ctxt_switches,
-            core_dumping: others.core_dumping,
-            thp_enabled: others.thp_enabled,
-        })
+        let mut status = Status::blank();
+        self.ids.judge(&mut status)?;
+        self.owner.judge(&mut status)?;
+        self.spaces.judge(&mut status)?;
+        self.memory.judge(&mut status)?;
+        self.signals.judge(&mut status)?;
+        self.others.judge(&mut status)?;
+        Ok(status)
     }
 }
 
