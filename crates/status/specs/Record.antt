@@ -1,5 +1,5 @@
 -- The slots of a status record, the record that they are judged to be, and a blank one.
-use Rattle.std.specs.Prelude.{List, [], pos, None, Ok, Result}
+use Rattle.std.specs.Prelude.{List, [], pos, None, Result}
 use Rattle.sources.specs.declared.fault.Fault.{Fault}
 use Rattle.sources.specs.Faults.{and_then}
 use Rattle.fields.specs.Counted.{counted, text_of}

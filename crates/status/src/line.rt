@@ -1,10 +1,7 @@
 ghost use Rattle.std.specs.Prelude.{◌≡◌};
-ghost use Rattle.status.specs.Line.{sheared as sheared_of, value_of, entry_of, seen_entry, after_status};
-ghost use Rattle.status.specs.Record.{judged_slots};
+ghost use Rattle.status.specs.Line.{sheared as sheared_of, value_of, entry_of, seen_entry};
 
 use crate::names::field_of;
-use crate::record::{Status, StatusSlots};
-use fields::slots::Slots;
 use sources::fault::Fault;
 use sources::pieces::{cut, shorn, trimmed, up_to};
 use sources::reason::Reason;
@@ -27,7 +24,7 @@ fn value(number: u8, rest: &str) -> &str
 }
 
 // The number of the field that a line sets, and the value; nothing of a line that is empty or has another name.
-fn entry(line: &str) -> Result<Option<(u8, &str)>, Fault>
+pub(crate) fn entry(line: &str) -> Result<Option<(u8, &str)>, Fault>
     ensures { seen_entry result ≡ entry_of line.now }
 {
     let text = sheared(line);
@@ -36,23 +33,4 @@ fn entry(line: &str) -> Result<Option<(u8, &str)>, Fault>
     }
     let (name, rest) = cut(text, ':').ok_or(Fault::new(Reason::Short))?;
     Ok(field_of(name).map(|number| (number, value(number, rest))))
-}
-
-impl Slots for StatusSlots {
-    type Record = Status;
-
-    ghost after = { after_status };
-
-    ghost judged = { judged_slots };
-
-    fn put_line(&mut self, line: &str) -> Result<(), Fault> {
-        if let Some((number, value)) = entry(line)? {
-            self.next(number, value);
-        }
-        Ok(())
-    }
-
-    fn judge(&self) -> Result<Status, Fault> {
-        self.record()
-    }
 }

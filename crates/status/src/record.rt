@@ -1,13 +1,16 @@
 ghost use Rattle.std.specs.Prelude.{◌≡◌, [], ◌∷◌};
+ghost use Rattle.status.specs.Line.{after_status};
 ghost use Rattle.status.specs.Record.{fill_slots, judged_slots, fresh_slots, blank_status};
 
 use crate::ids::IdsSlots;
+use crate::line::entry;
 use crate::memory::MemorySlots;
 use crate::others::OthersSlots;
 use crate::owner::OwnerSlots;
 use crate::signals::SignalsSlots;
 use crate::spaces::SpacesSlots;
-use fields::counted::{Counted, Text, copied};
+use fields::counted::{Counted, Text};
+use fields::slots::Slots;
 use sources::fault::Fault;
 
 // What /proc/PID/status says of a process, field by field; sizes are in kB. docs/STATUS.md has what each field is.
@@ -95,7 +98,7 @@ impl StatusSlots {
     }
 
     // After a line that sets the field `number`.
-    pub(crate) fn next(&mut self, number: u8, text: &str)
+    fn next(&mut self, number: u8, text: &str)
         ensures { self.new ≡ fill_slots ((number, text.now) ∷ []) self.old }
     {
         self.ids.next(number, text);
@@ -105,11 +108,24 @@ impl StatusSlots {
         self.signals.next(number, text);
         self.others.next(number, text);
     }
+}
 
-    // The record, or what is wrong with the first field that is not as it must be.
-    pub(crate) fn record(&self) -> Result<Status, Fault>
-        ensures { result ≡ judged_slots self.now }
-    {
+impl Slots for StatusSlots {
+    type Record = Status;
+
+    ghost after = { after_status };
+
+    ghost judged = { judged_slots };
+
+    #[tactic(auto, unfolding(crate::specs::Line::after_status))]
+    fn put_line(&mut self, line: &str) -> Result<(), Fault> {
+        if let Some((number, value)) = entry(line)? {
+            self.next(number, value);
+        }
+        Ok(())
+    }
+
+    fn judge(&self) -> Result<Status, Fault> {
         let mut status = Status::blank();
         self.ids.judge(&mut status)?;
         self.owner.judge(&mut status)?;

@@ -1,7 +1,6 @@
-use Rattle.std.proofs.Common.{rules, ◌≡◌, ℕ, [], ap, sym, ◌∙◌}
+use Rattle.std.proofs.Common.{rules, ◌≡◌, ℕ, [], ap, ◌∙◌}
 use Rattle.fields.specs.declared.counted.Counted.{Counted}
 use Rattle.fields.specs.Counted.{counted, text_of}
-use Rattle.status.specs.Record.{blank_status}
 use Rattle.status.proofs.record.Status.blank.Goals as goal
 
 -- an empty list of blank numbers
