@@ -7,7 +7,7 @@ use Rattle.fields.specs.Slots.{Entry, last_of, needed, optional}
 use Rattle.fields.specs.Values.{figure_of, signed_of}
 use Rattle.status.specs.Whole.{whole_text}
 use Rattle.status.specs.declared.ids.IdsSlots.{IdsSlots}
-use Rattle.status.specs.declared.ids.Ids.{Ids}
+use Rattle.status.specs.declared.record.Status.{Status}
 
 -- After entries, with the last first: each slot by how its value is read and by the number of its field.
 abbrev pub fill_ids : List Entry → IdsSlots → IdsSlots
@@ -22,9 +22,9 @@ fill_ids es s = record {
   tracerpid = last_of signed_of 8 es s.tracerpid;
 }
 
--- The fields, judged in order.
-abbrev pub judged_ids : IdsSlots → Result Ids Fault
-judged_ids s =
+-- The record so far with these fields, judged in order.
+abbrev pub judged_ids : IdsSlots → Status → Result Status Fault
+judged_ids s status =
     and_then (needed 1 s.name) (λ name.
     and_then (optional 2 s.umask) (λ umask.
     and_then (needed 3 s.state) (λ state.
@@ -33,4 +33,4 @@ judged_ids s =
     and_then (needed 6 s.pid) (λ pid.
     and_then (needed 7 s.ppid) (λ ppid.
     and_then (needed 8 s.tracerpid) (λ tracerpid.
-    Ok (record { name = name; umask = umask; state = state; tgid = tgid; ngid = ngid; pid = pid; ppid = ppid; tracerpid = tracerpid })))))))))
+    Ok (record status { name = name; umask = umask; state = state; tgid = tgid; ngid = ngid; pid = pid; ppid = ppid; tracerpid = tracerpid })))))))))

@@ -1,7 +1,7 @@
 -- A line of the status: the field that it sets, and the value.
 use Rattle.std.specs.Prelude.{ℕ, Bool, true, false, cond, List, [], ◌∷◌, length, Some, None, Ok, Err, Option, Result, ◌==◌}
 use Rattle.std.specs.Borrow.{Bor}
-use Rattle.std.specs.Option.{unwrap_or}
+use Rattle.std.specs.Option.{option_map, unwrap_or}
 use Rattle.sources.specs.declared.fault.Fault.{Fault}
 use Rattle.sources.specs.declared.reason.Reason.TheVariants.{Short}
 use Rattle.sources.specs.Faults.{fault}
@@ -20,13 +20,13 @@ sheared line = case_of (shorn (10 ∷ []) line) line (λ front. unwrap_or (shorn
 abbrev pub value_of : ℕ → List ℕ → List ℕ
 value_of number rest = trim (cond (number == 1) rest (up_to 58 rest))
 
--- What is told by the parts of a line before and after its first colon; the number is 0 where the name is none of ours.
-abbrev pub entry_in : List ℕ × List ℕ → Entry
-entry_in p = let number = field_of p.0 in (number, value_of number p.1)
+-- What is told by the parts of a line before and after its first colon: nothing where the name is none of ours.
+abbrev pub entry_in : List ℕ × List ℕ → Option Entry
+entry_in p = option_map (λ number. (number, value_of number p.1)) (field_of p.0)
 
 -- What a line without its end says: nothing where it is empty, and it needs a colon otherwise.
 abbrev pub entry_of_text : List ℕ → Result (Option Entry) Fault
-entry_of_text text = cond (length text == 0) (Ok None) (case_of (cut_at 58 text) (Err (fault Short)) (λ p. Ok (Some (entry_in p))))
+entry_of_text text = cond (length text == 0) (Ok None) (case_of (cut_at 58 text) (Err (fault Short)) (λ p. Ok (entry_in p)))
 
 abbrev pub entry_of : List ℕ → Result (Option Entry) Fault
 entry_of line = entry_of_text (sheared line)
@@ -41,10 +41,10 @@ seen_entry (Err f) = Err f
 unfoldable pub after_status : StatusSlots → List ℕ → Result StatusSlots Fault
 after_status s line = after_entry fill_slots s (entry_of line)
 
--- Foreign are empty lines, and lines with a colon whose name is none of ours.
+-- Foreign are empty lines, and lines with a colon whose name is none of ours: those that say nothing.
 abbrev pub aside : Result (Option Entry) Fault → Bool
 aside (Ok None) = true
-aside (Ok (Some e)) = e.0 == 0
+aside (Ok (Some e)) = false
 aside (Err f) = false
 
 unfoldable pub is_foreign : List ℕ → Bool

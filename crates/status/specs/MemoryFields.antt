@@ -5,7 +5,7 @@ use Rattle.sources.specs.Faults.{and_then}
 use Rattle.fields.specs.Slots.{Entry, last_of, optional}
 use Rattle.fields.specs.Values.{kilobytes_of}
 use Rattle.status.specs.declared.memory.MemorySlots.{MemorySlots}
-use Rattle.status.specs.declared.memory.Memory.{Memory}
+use Rattle.status.specs.declared.record.Status.{Status}
 
 -- After entries, with the last first: each slot by how its value is read and by the number of its field.
 abbrev pub fill_memory : List Entry → MemorySlots → MemorySlots
@@ -28,9 +28,9 @@ fill_memory es s = record {
   hugetlbpages = last_of kilobytes_of 38 es s.hugetlbpages;
 }
 
--- The fields, judged in order.
-abbrev pub judged_memory : MemorySlots → Result Memory Fault
-judged_memory s =
+-- The record so far with these fields, judged in order.
+abbrev pub judged_memory : MemorySlots → Status → Result Status Fault
+judged_memory s status =
     and_then (optional 23 s.vmpeak) (λ vmpeak.
     and_then (optional 24 s.vmsize) (λ vmsize.
     and_then (optional 25 s.vmlck) (λ vmlck.
@@ -47,4 +47,4 @@ judged_memory s =
     and_then (optional 36 s.vmpte) (λ vmpte.
     and_then (optional 37 s.vmswap) (λ vmswap.
     and_then (optional 38 s.hugetlbpages) (λ hugetlbpages.
-    Ok (record { vmpeak = vmpeak; vmsize = vmsize; vmlck = vmlck; vmpin = vmpin; vmhwm = vmhwm; vmrss = vmrss; rssanon = rssanon; rssfile = rssfile; rssshmem = rssshmem; vmdata = vmdata; vmstk = vmstk; vmexe = vmexe; vmlib = vmlib; vmpte = vmpte; vmswap = vmswap; hugetlbpages = hugetlbpages })))))))))))))))))
+    Ok (record status { vmpeak = vmpeak; vmsize = vmsize; vmlck = vmlck; vmpin = vmpin; vmhwm = vmhwm; vmrss = vmrss; rssanon = rssanon; rssfile = rssfile; rssshmem = rssshmem; vmdata = vmdata; vmstk = vmstk; vmexe = vmexe; vmlib = vmlib; vmpte = vmpte; vmswap = vmswap; hugetlbpages = hugetlbpages })))))))))))))))))

@@ -1,16 +1,7 @@
 -- The names of the lines, and the field that each sets.
-use Rattle.std.specs.Prelude.{ℕ, cond, List, [], ◌∷◌, codes}
-use Rattle.std.specs.Borrow.{Bor}
+use Rattle.std.specs.Prelude.{ℕ, List, [], ◌∷◌, codes, find, Option}
+use Rattle.std.specs.Option.{option_map}
 use Rattle.std.specs.Str.{bytes_eq}
-
--- A number and a borrowed name, by its bytes.
-abbrev pub named : ℕ × Bor (List ℕ) → ℕ × List ℕ
-named p = (p.0, p.1.now)
-
--- The number of a name, or 0 where it is none of them.
-abbrev pub found : List (ℕ × List ℕ) → List ℕ → ℕ
-found [] name = 0
-found (own ∷ owns) name = cond (bytes_eq name own.1) own.0 (found owns name)
 
 -- The names, each with the number of the first field that its line sets: "Uid" and "Gid" set four.
 abbrev pub names : List (ℕ × List ℕ)
@@ -72,6 +63,6 @@ names =
     ∷ (61, codes "THP_enabled")
     ∷ []
 
--- The number of the first field that a line of this name sets, or 0.
-unfoldable pub field_of : List ℕ → ℕ
-field_of name = found names name
+-- The number of the first field that a line of this name sets, where the name is one of these.
+unfoldable pub field_of : List ℕ → Option ℕ
+field_of name = option_map (λ own. own.0) (find (λ own. bytes_eq own.1 name) names)

@@ -7,7 +7,7 @@ use Rattle.fields.specs.Slots.{Entry, last_of, lenient, optional}
 use Rattle.fields.specs.Values.{figure_of, mask_of, ranges_of}
 use Rattle.status.specs.Whole.{whole_flag, whole_text}
 use Rattle.status.specs.declared.others.OthersSlots.{OthersSlots}
-use Rattle.status.specs.declared.others.Others.{Others}
+use Rattle.status.specs.declared.record.Status.{Status}
 
 -- After entries, with the last first: each slot by how its value is read and by the number of its field.
 abbrev pub fill_others : List Entry → OthersSlots → OthersSlots
@@ -25,9 +25,9 @@ fill_others es s = record {
   thp_enabled = last_of whole_flag 61 es s.thp_enabled;
 }
 
--- The fields, judged in order.
-abbrev pub judged_others : OthersSlots → Result Others Fault
-judged_others s =
+-- The record so far with these fields, judged in order.
+abbrev pub judged_others : OthersSlots → Status → Result Status Fault
+judged_others s status =
     and_then (optional 51 s.nonewprivs) (λ nonewprivs.
     and_then (optional 52 s.seccomp) (λ seccomp.
     and_then (optional 53 s.speculation_store_bypass) (λ speculation-store-bypass.
@@ -39,4 +39,4 @@ judged_others s =
     and_then (optional 59 s.nonvoluntary_ctxt_switches) (λ nonvoluntary-ctxt-switches.
     and_then (optional 60 s.core_dumping) (λ core-dumping.
     and_then (optional 61 s.thp_enabled) (λ thp-enabled.
-    Ok (record { nonewprivs = nonewprivs; seccomp = seccomp; speculation_store_bypass = speculation-store-bypass; cpus_allowed = cpus-allowed; cpus_allowed_list = cpus-allowed-list; mems_allowed = mems-allowed; mems_allowed_list = mems-allowed-list; voluntary_ctxt_switches = voluntary-ctxt-switches; nonvoluntary_ctxt_switches = nonvoluntary-ctxt-switches; core_dumping = core-dumping; thp_enabled = thp-enabled }))))))))))))
+    Ok (record status { nonewprivs = nonewprivs; seccomp = seccomp; speculation_store_bypass = speculation-store-bypass; cpus_allowed = cpus-allowed; cpus_allowed_list = cpus-allowed-list; mems_allowed = mems-allowed; mems_allowed_list = mems-allowed-list; voluntary_ctxt_switches = voluntary-ctxt-switches; nonvoluntary_ctxt_switches = nonvoluntary-ctxt-switches; core_dumping = core-dumping; thp_enabled = thp-enabled }))))))))))))

@@ -5,7 +5,7 @@ use Rattle.sources.specs.Faults.{and_then}
 use Rattle.fields.specs.Slots.{Entry, last_of, needed, at_field}
 use Rattle.fields.specs.Values.{four_of}
 use Rattle.status.specs.declared.owner.OwnerSlots.{OwnerSlots}
-use Rattle.status.specs.declared.owner.Owner.{Owner}
+use Rattle.status.specs.declared.record.Status.{Status}
 
 -- After entries, with the last first: each slot by how its value is read and by the number of its field.
 abbrev pub fill_owner : List Entry → OwnerSlots → OwnerSlots
@@ -14,9 +14,9 @@ fill_owner es s = record {
   gid = last_of four_of 13 es s.gid;
 }
 
--- The fields, judged in order.
-abbrev pub judged_owner : OwnerSlots → Result Owner Fault
-judged_owner s =
+-- The record so far with these fields, judged in order.
+abbrev pub judged_owner : OwnerSlots → Status → Result Status Fault
+judged_owner s status =
     and_then (needed 9 s.uid) (λ uid.
     and_then (at_field 9 uid.real) (λ ruid.
     and_then (at_field 10 uid.effective) (λ euid.
@@ -27,4 +27,4 @@ judged_owner s =
     and_then (at_field 14 gid.effective) (λ egid.
     and_then (at_field 15 gid.saved) (λ sgid.
     and_then (at_field 16 gid.filesystem) (λ fgid.
-    Ok (record { ruid = ruid; euid = euid; suid = suid; fuid = fuid; rgid = rgid; egid = egid; sgid = sgid; fgid = fgid })))))))))))
+    Ok (record status { ruid = ruid; euid = euid; suid = suid; fuid = fuid; rgid = rgid; egid = egid; sgid = sgid; fgid = fgid })))))))))))

@@ -1,5 +1,5 @@
 -- The slots of a status record, the record that they are judged to be, and a blank one.
-use Rattle.std.specs.Prelude.{List, [], pos, None, Ok, Result}
+use Rattle.std.specs.Prelude.{List, [], pos, None, Result}
 use Rattle.sources.specs.declared.fault.Fault.{Fault}
 use Rattle.sources.specs.Faults.{and_then}
 use Rattle.fields.specs.Counted.{counted, text_of}
@@ -34,79 +34,6 @@ fill_slots es s = record {
   signals = fill_signals es s.signals;
   others = fill_others es s.others;
 }
-
--- The fields, judged in order, from 1 to 61.
-abbrev pub judged_slots : StatusSlots → Result Status Fault
-judged_slots s =
-    and_then (judged_ids s.ids) (λ ids.
-    and_then (judged_owner s.owner) (λ owner.
-    and_then (judged_spaces s.spaces) (λ spaces.
-    and_then (judged_memory s.memory) (λ memory.
-    and_then (judged_signals s.signals) (λ signals.
-    and_then (judged_others s.others) (λ others.
-    Ok (record {
-      name = ids.name;
-      umask = ids.umask;
-      state = ids.state;
-      tgid = ids.tgid;
-      ngid = ids.ngid;
-      pid = ids.pid;
-      ppid = ids.ppid;
-      tracerpid = ids.tracerpid;
-      ruid = owner.ruid;
-      euid = owner.euid;
-      suid = owner.suid;
-      fuid = owner.fuid;
-      rgid = owner.rgid;
-      egid = owner.egid;
-      sgid = owner.sgid;
-      fgid = owner.fgid;
-      fdsize = spaces.fdsize;
-      groups = spaces.groups;
-      nstgid = spaces.nstgid;
-      nspid = spaces.nspid;
-      nspgid = spaces.nspgid;
-      nssid = spaces.nssid;
-      vmpeak = memory.vmpeak;
-      vmsize = memory.vmsize;
-      vmlck = memory.vmlck;
-      vmpin = memory.vmpin;
-      vmhwm = memory.vmhwm;
-      vmrss = memory.vmrss;
-      rssanon = memory.rssanon;
-      rssfile = memory.rssfile;
-      rssshmem = memory.rssshmem;
-      vmdata = memory.vmdata;
-      vmstk = memory.vmstk;
-      vmexe = memory.vmexe;
-      vmlib = memory.vmlib;
-      vmpte = memory.vmpte;
-      vmswap = memory.vmswap;
-      hugetlbpages = memory.hugetlbpages;
-      threads = signals.threads;
-      sigq = signals.sigq;
-      sigpnd = signals.sigpnd;
-      shdpnd = signals.shdpnd;
-      sigblk = signals.sigblk;
-      sigign = signals.sigign;
-      sigcgt = signals.sigcgt;
-      capinh = signals.capinh;
-      capprm = signals.capprm;
-      capeff = signals.capeff;
-      capbnd = signals.capbnd;
-      capamb = signals.capamb;
-      nonewprivs = others.nonewprivs;
-      seccomp = others.seccomp;
-      speculation_store_bypass = others.speculation_store_bypass;
-      cpus_allowed = others.cpus_allowed;
-      cpus_allowed_list = others.cpus_allowed_list;
-      mems_allowed = others.mems_allowed;
-      mems_allowed_list = others.mems_allowed_list;
-      voluntary_ctxt_switches = others.voluntary_ctxt_switches;
-      nonvoluntary_ctxt_switches = others.nonvoluntary_ctxt_switches;
-      core_dumping = others.core_dumping;
-      thp_enabled = others.thp_enabled;
-    })))))))
 
 -- What a record holds after a refusal.
 abbrev pub blank_status : Status
@@ -173,3 +100,13 @@ blank_status = record {
   core_dumping = None;
   thp_enabled = None;
 }
+
+-- The fields, judged in order, from 1 to 61.
+abbrev pub judged_slots : StatusSlots → Result Status Fault
+judged_slots s =
+    and_then (judged_ids s.ids blank_status) (λ status.
+    and_then (judged_owner s.owner status) (λ status.
+    and_then (judged_spaces s.spaces status) (λ status.
+    and_then (judged_memory s.memory status) (λ status.
+    and_then (judged_signals s.signals status) (λ status.
+    judged_others s.others status)))))

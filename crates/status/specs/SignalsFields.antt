@@ -6,7 +6,7 @@ use Rattle.sources.specs.Faults.{and_then}
 use Rattle.fields.specs.Slots.{Entry, last_of, needed, optional}
 use Rattle.fields.specs.Values.{figure_of, pair_of}
 use Rattle.status.specs.declared.signals.SignalsSlots.{SignalsSlots}
-use Rattle.status.specs.declared.signals.Signals.{Signals}
+use Rattle.status.specs.declared.record.Status.{Status}
 
 -- After entries, with the last first: each slot by how its value is read and by the number of its field.
 abbrev pub fill_signals : List Entry → SignalsSlots → SignalsSlots
@@ -25,9 +25,9 @@ fill_signals es s = record {
   capamb = last_of (figure_of 64 Hexadecimal) 50 es s.capamb;
 }
 
--- The fields, judged in order.
-abbrev pub judged_signals : SignalsSlots → Result Signals Fault
-judged_signals s =
+-- The record so far with these fields, judged in order.
+abbrev pub judged_signals : SignalsSlots → Status → Result Status Fault
+judged_signals s status =
     and_then (needed 39 s.threads) (λ threads.
     and_then (needed 40 s.sigq) (λ sigq.
     and_then (needed 41 s.sigpnd) (λ sigpnd.
@@ -40,4 +40,4 @@ judged_signals s =
     and_then (needed 48 s.capeff) (λ capeff.
     and_then (optional 49 s.capbnd) (λ capbnd.
     and_then (optional 50 s.capamb) (λ capamb.
-    Ok (record { threads = threads; sigq = sigq; sigpnd = sigpnd; shdpnd = shdpnd; sigblk = sigblk; sigign = sigign; sigcgt = sigcgt; capinh = capinh; capprm = capprm; capeff = capeff; capbnd = capbnd; capamb = capamb })))))))))))))
+    Ok (record status { threads = threads; sigq = sigq; sigpnd = sigpnd; shdpnd = shdpnd; sigblk = sigblk; sigign = sigign; sigcgt = sigcgt; capinh = capinh; capprm = capprm; capeff = capeff; capbnd = capbnd; capamb = capamb })))))))))))))

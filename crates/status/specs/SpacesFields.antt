@@ -6,7 +6,7 @@ use Rattle.sources.specs.Faults.{and_then}
 use Rattle.fields.specs.Slots.{Entry, last_of, needed, optional}
 use Rattle.fields.specs.Values.{figure_of, groups_of, spaces_of}
 use Rattle.status.specs.declared.spaces.SpacesSlots.{SpacesSlots}
-use Rattle.status.specs.declared.spaces.Spaces.{Spaces}
+use Rattle.status.specs.declared.record.Status.{Status}
 
 -- After entries, with the last first: each slot by how its value is read and by the number of its field.
 abbrev pub fill_spaces : List Entry → SpacesSlots → SpacesSlots
@@ -19,13 +19,13 @@ fill_spaces es s = record {
   nssid = last_of spaces_of 22 es s.nssid;
 }
 
--- The fields, judged in order.
-abbrev pub judged_spaces : SpacesSlots → Result Spaces Fault
-judged_spaces s =
+-- The record so far with these fields, judged in order.
+abbrev pub judged_spaces : SpacesSlots → Status → Result Status Fault
+judged_spaces s status =
     and_then (needed 17 s.fdsize) (λ fdsize.
     and_then (needed 18 s.groups) (λ groups.
     and_then (optional 19 s.nstgid) (λ nstgid.
     and_then (optional 20 s.nspid) (λ nspid.
     and_then (optional 21 s.nspgid) (λ nspgid.
     and_then (optional 22 s.nssid) (λ nssid.
-    Ok (record { fdsize = fdsize; groups = groups; nstgid = nstgid; nspid = nspid; nspgid = nspgid; nssid = nssid })))))))
+    Ok (record status { fdsize = fdsize; groups = groups; nstgid = nstgid; nspid = nspid; nspgid = nspgid; nssid = nssid })))))))

@@ -1,6 +1,8 @@
 ghost use Rattle.std.specs.Prelude.{◌≡◌, [], ◌∷◌};
+ghost use Rattle.std.specs.Result.{result_and};
 ghost use Rattle.status.specs.IdsFields.{fill_ids, judged_ids};
 
+use crate::record::Status;
 use fields::counted::{Text, copied};
 use fields::slot::{Slot, needed, optional};
 use fields::value::figure;
@@ -8,7 +10,7 @@ use sources::fault::Fault;
 use sources::number::Radix;
 
 // Slots of the name, the state and the numbers of a process.
-#[derive(Clone, Copy)]
+#[derive(Clone, Copy, Default)]
 pub struct IdsSlots {
     pub(crate) name: Slot<Text>,
     pub(crate) umask: Slot<u32>,
@@ -18,19 +20,6 @@ pub struct IdsSlots {
     pub(crate) pid: Slot<i32>,
     pub(crate) ppid: Slot<i32>,
     pub(crate) tracerpid: Slot<i32>,
-}
-
-// The fields themselves.
-#[derive(Clone, Copy)]
-pub struct Ids {
-    pub(crate) name: Text,
-    pub(crate) umask: Option<u32>,
-    pub(crate) state: Text,
-    pub(crate) tgid: i32,
-    pub(crate) ngid: Option<i32>,
-    pub(crate) pid: i32,
-    pub(crate) ppid: i32,
-    pub(crate) tracerpid: i32,
 }
 
 impl IdsSlots {
@@ -51,19 +40,18 @@ impl IdsSlots {
         }
     }
 
-    // The fields, or what is wrong with the first that is not as it must be.
-    pub(crate) fn judge(&self) -> Result<Ids, Fault>
-        ensures { result ≡ judged_ids self.now }
+    // Sets these fields of the record, or answers what is wrong with the first that is not as it must be.
+    pub(crate) fn judge(&self, status: &mut Status) -> Result<(), Fault>
+        ensures { result_and result (Ok status.new) ≡ judged_ids self.now status.old }
     {
-        Ok(Ids {
-            name: needed(1, self.name)?,
-            umask: optional(2, self.umask)?,
-            state: needed(3, self.state)?,
-            tgid: needed(4, self.tgid)?,
-            ngid: optional(5, self.ngid)?,
-            pid: needed(6, self.pid)?,
-            ppid: needed(7, self.ppid)?,
-            tracerpid: needed(8, self.tracerpid)?,
-        })
+        status.name = needed(1, self.name)?;
+        status.umask = optional(2, self.umask)?;
+        status.state = needed(3, self.state)?;
+        status.tgid = needed(4, self.tgid)?;
+        status.ngid = optional(5, self.ngid)?;
+        status.pid = needed(6, self.pid)?;
+        status.ppid = needed(7, self.ppid)?;
+        status.tracerpid = needed(8, self.tracerpid)?;
+        Ok(())
     }
 }

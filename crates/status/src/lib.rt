@@ -2,7 +2,7 @@
 #![tactic(auto)]
 
 mod ids;
-pub mod line;
+mod line;
 mod memory;
 mod names;
 mod others;

@@ -1,10 +1,7 @@
 ghost use Rattle.std.specs.Prelude.{◌≡◌};
-ghost use Rattle.status.specs.Line.{sheared as sheared_of, value_of, entry_of, seen_entry, after_status};
-ghost use Rattle.status.specs.Record.{judged_slots};
+ghost use Rattle.status.specs.Line.{sheared as sheared_of, value_of, entry_of, seen_entry};
 
 use crate::names::field_of;
-use crate::record::{Status, StatusSlots};
-use fields::slots::Slots;
 use sources::fault::Fault;
 use sources::pieces::{cut, shorn, trimmed, up_to};
 use sources::reason::Reason;
@@ -13,28 +10,21 @@ use sources::reason::Reason;
 fn sheared(line: &str) -> &str
     ensures { result.now ≡ sheared_of line.now }
 {
-    match shorn(line, "\n") {
-        None => line,
-        Some(front) => match shorn(front, "\r") {
-            Some(text) => text,
-            None => front,
-        },
-    }
+    let Some(front) = shorn(line, "\n") else {
+        return line;
+    };
+    shorn(front, "\r").unwrap_or(front)
 }
 
 // The value of a field, in what follows the first colon: the name of a process may have colons of its own.
 fn value(number: u8, rest: &str) -> &str
     ensures { result.now ≡ value_of number rest.now }
 {
-    if number == 1 {
-        trimmed(rest)
-    } else {
-        trimmed(up_to(rest, ':'))
-    }
+    trimmed(if number == 1 { rest } else { up_to(rest, ':') })
 }
 
-// The number of the field that a line sets, 0 where it is none, and the value; nothing of an empty line.
-fn entry(line: &str) -> Result<Option<(u8, &str)>, Fault>
+// The number of the field that a line sets, and the value; nothing of a line that is empty or has another name.
+pub(crate) fn entry(line: &str) -> Result<Option<(u8, &str)>, Fault>
     ensures { seen_entry result ≡ entry_of line.now }
 {
     let text = sheared(line);
@@ -42,25 +32,5 @@ fn entry(line: &str) -> Result<Option<(u8, &str)>, Fault>
         return Ok(None);
     }
     let (name, rest) = cut(text, ':').ok_or(Fault::new(Reason::Short))?;
-    let number = field_of(name);
-    Ok(Some((number, value(number, rest))))
-}
-
-impl Slots for StatusSlots {
-    type Record = Status;
-
-    ghost after = { after_status };
-
-    ghost judged = { judged_slots };
-
-    fn put_line(&mut self, line: &str) -> Result<(), Fault> {
-        if let Some((number, value)) = entry(line)? {
-            self.next(number, value);
-        }
-        Ok(())
-    }
-
-    fn judge(&self) -> Result<Status, Fault> {
-        self.record()
-    }
+    Ok(field_of(name).map(|number| (number, value(number, rest))))
 }

@@ -1,12 +1,14 @@
 ghost use Rattle.std.specs.Prelude.{◌≡◌, [], ◌∷◌};
+ghost use Rattle.std.specs.Result.{result_and};
 ghost use Rattle.status.specs.MemoryFields.{fill_memory, judged_memory};
 
+use crate::record::Status;
 use fields::slot::{Slot, optional};
 use fields::value::kilobytes;
 use sources::fault::Fault;
 
 // Slots of figures of memory, in kB.
-#[derive(Clone, Copy)]
+#[derive(Clone, Copy, Default)]
 pub struct MemorySlots {
     pub(crate) vmpeak: Slot<u64>,
     pub(crate) vmsize: Slot<u64>,
@@ -24,27 +26,6 @@ pub struct MemorySlots {
     pub(crate) vmpte: Slot<u64>,
     pub(crate) vmswap: Slot<u64>,
     pub(crate) hugetlbpages: Slot<u64>,
-}
-
-// The fields themselves.
-#[derive(Clone, Copy)]
-pub struct Memory {
-    pub(crate) vmpeak: Option<u64>,
-    pub(crate) vmsize: Option<u64>,
-    pub(crate) vmlck: Option<u64>,
-    pub(crate) vmpin: Option<u64>,
-    pub(crate) vmhwm: Option<u64>,
-    pub(crate) vmrss: Option<u64>,
-    pub(crate) rssanon: Option<u64>,
-    pub(crate) rssfile: Option<u64>,
-    pub(crate) rssshmem: Option<u64>,
-    pub(crate) vmdata: Option<u64>,
-    pub(crate) vmstk: Option<u64>,
-    pub(crate) vmexe: Option<u64>,
-    pub(crate) vmlib: Option<u64>,
-    pub(crate) vmpte: Option<u64>,
-    pub(crate) vmswap: Option<u64>,
-    pub(crate) hugetlbpages: Option<u64>,
 }
 
 impl MemorySlots {
@@ -73,27 +54,26 @@ impl MemorySlots {
         }
     }
 
-    // The fields, or what is wrong with the first that is not as it must be.
-    pub(crate) fn judge(&self) -> Result<Memory, Fault>
-        ensures { result ≡ judged_memory self.now }
+    // Sets these fields of the record, or answers what is wrong with the first that is not as it must be.
+    pub(crate) fn judge(&self, status: &mut Status) -> Result<(), Fault>
+        ensures { result_and result (Ok status.new) ≡ judged_memory self.now status.old }
     {
-        Ok(Memory {
-            vmpeak: optional(23, self.vmpeak)?,
-            vmsize: optional(24, self.vmsize)?,
-            vmlck: optional(25, self.vmlck)?,
-            vmpin: optional(26, self.vmpin)?,
-            vmhwm: optional(27, self.vmhwm)?,
-            vmrss: optional(28, self.vmrss)?,
-            rssanon: optional(29, self.rssanon)?,
-            rssfile: optional(30, self.rssfile)?,
-            rssshmem: optional(31, self.rssshmem)?,
-            vmdata: optional(32, self.vmdata)?,
-            vmstk: optional(33, self.vmstk)?,
-            vmexe: optional(34, self.vmexe)?,
-            vmlib: optional(35, self.vmlib)?,
-            vmpte: optional(36, self.vmpte)?,
-            vmswap: optional(37, self.vmswap)?,
-            hugetlbpages: optional(38, self.hugetlbpages)?,
-        })
+        status.vmpeak = optional(23, self.vmpeak)?;
+        status.vmsize = optional(24, self.vmsize)?;
+        status.vmlck = optional(25, self.vmlck)?;
+        status.vmpin = optional(26, self.vmpin)?;
+        status.vmhwm = optional(27, self.vmhwm)?;
+        status.vmrss = optional(28, self.vmrss)?;
+        status.rssanon = optional(29, self.rssanon)?;
+        status.rssfile = optional(30, self.rssfile)?;
+        status.rssshmem = optional(31, self.rssshmem)?;
+        status.vmdata = optional(32, self.vmdata)?;
+        status.vmstk = optional(33, self.vmstk)?;
+        status.vmexe = optional(34, self.vmexe)?;
+        status.vmlib = optional(35, self.vmlib)?;
+        status.vmpte = optional(36, self.vmpte)?;
+        status.vmswap = optional(37, self.vmswap)?;
+        status.hugetlbpages = optional(38, self.hugetlbpages)?;
+        Ok(())
     }
 }

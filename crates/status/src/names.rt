@@ -1,5 +1,5 @@
-ghost use Rattle.std.specs.Prelude.{◌≡◌, map};
-ghost use Rattle.status.specs.Names.{field_of, found, named};
+ghost use Rattle.std.specs.Prelude.{◌≡◌};
+ghost use Rattle.status.specs.Names.{field_of};
 
 // The names of lines, each with the number of the first field that its line sets.
 const NAMES: [(u8, &str); 55] = [
@@ -60,21 +60,9 @@ const NAMES: [(u8, &str); 55] = [
     (61, "THP_enabled"),
 ];
 
-// The number of a name, or 0 where it is none of these.
-fn find(names: &[(u8, &str)], name: &str) -> u8
-    ensures { result ≡ found (map named names.now) name.now }
-{
-    for own in names {
-        if name == own.1 {
-            return own.0;
-        }
-    }
-    0
-}
-
-// The number of the first field that a line of this name sets, or 0.
-pub(crate) fn field_of(name: &str) -> u8
+// The number of the first field that a line of this name sets, where the name is one of these.
+pub(crate) fn field_of(name: &str) -> Option<u8>
     ensures { result ≡ field_of name.now }
 {
-    find(&NAMES, name)
+    NAMES.iter().find(|own| own.1 == name).map(|own| own.0)
 }

@@ -1,6 +1,8 @@
 ghost use Rattle.std.specs.Prelude.{◌≡◌, [], ◌∷◌};
+ghost use Rattle.std.specs.Result.{result_and};
 ghost use Rattle.status.specs.OthersFields.{fill_others, judged_others};
 
+use crate::record::Status;
 use fields::counted::{Counted, Text, copied};
 use fields::slot::{Slot, lenient, optional};
 use fields::value::{figure, flag, mask, ranges};
@@ -8,7 +10,7 @@ use sources::fault::Fault;
 use sources::number::Radix;
 
 // Slots of privileges, processors, memory nodes, switches and flags.
-#[derive(Clone, Copy)]
+#[derive(Clone, Copy, Default)]
 pub struct OthersSlots {
     pub(crate) nonewprivs: Slot<u64>,
     pub(crate) seccomp: Slot<u32>,
@@ -21,22 +23,6 @@ pub struct OthersSlots {
     pub(crate) nonvoluntary_ctxt_switches: Slot<u64>,
     pub(crate) core_dumping: Slot<bool>,
     pub(crate) thp_enabled: Slot<bool>,
-}
-
-// The fields themselves.
-#[derive(Clone, Copy)]
-pub struct Others {
-    pub(crate) nonewprivs: Option<u64>,
-    pub(crate) seccomp: Option<u32>,
-    pub(crate) speculation_store_bypass: Option<Text>,
-    pub(crate) cpus_allowed: Option<Counted<u32, 256>>,
-    pub(crate) cpus_allowed_list: Option<Counted<(u32, u32), 128>>,
-    pub(crate) mems_allowed: Option<Counted<u32, 256>>,
-    pub(crate) mems_allowed_list: Option<Counted<(u32, u32), 128>>,
-    pub(crate) voluntary_ctxt_switches: Option<u64>,
-    pub(crate) nonvoluntary_ctxt_switches: Option<u64>,
-    pub(crate) core_dumping: Option<bool>,
-    pub(crate) thp_enabled: Option<bool>,
 }
 
 impl OthersSlots {
@@ -60,22 +46,21 @@ impl OthersSlots {
         }
     }
 
-    // The fields, or what is wrong with the first that is not as it must be.
-    pub(crate) fn judge(&self) -> Result<Others, Fault>
-        ensures { result ≡ judged_others self.now }
+    // Sets these fields of the record, or answers what is wrong with the first that is not as it must be.
+    pub(crate) fn judge(&self, status: &mut Status) -> Result<(), Fault>
+        ensures { result_and result (Ok status.new) ≡ judged_others self.now status.old }
     {
-        Ok(Others {
-            nonewprivs: optional(51, self.nonewprivs)?,
-            seccomp: optional(52, self.seccomp)?,
-            speculation_store_bypass: optional(53, self.speculation_store_bypass)?,
-            cpus_allowed: optional(54, self.cpus_allowed)?,
-            cpus_allowed_list: lenient(55, self.cpus_allowed_list)?,
-            mems_allowed: optional(56, self.mems_allowed)?,
-            mems_allowed_list: lenient(57, self.mems_allowed_list)?,
-            voluntary_ctxt_switches: optional(58, self.voluntary_ctxt_switches)?,
-            nonvoluntary_ctxt_switches: optional(59, self.nonvoluntary_ctxt_switches)?,
-            core_dumping: optional(60, self.core_dumping)?,
-            thp_enabled: optional(61, self.thp_enabled)?,
-        })
+        status.nonewprivs = optional(51, self.nonewprivs)?;
+        status.seccomp = optional(52, self.seccomp)?;
+        status.speculation_store_bypass = optional(53, self.speculation_store_bypass)?;
+        status.cpus_allowed = optional(54, self.cpus_allowed)?;
+        status.cpus_allowed_list = lenient(55, self.cpus_allowed_list)?;
+        status.mems_allowed = optional(56, self.mems_allowed)?;
+        status.mems_allowed_list = lenient(57, self.mems_allowed_list)?;
+        status.voluntary_ctxt_switches = optional(58, self.voluntary_ctxt_switches)?;
+        status.nonvoluntary_ctxt_switches = optional(59, self.nonvoluntary_ctxt_switches)?;
+        status.core_dumping = optional(60, self.core_dumping)?;
+        status.thp_enabled = optional(61, self.thp_enabled)?;
+        Ok(())
     }
 }

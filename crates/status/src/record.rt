@@ -1,17 +1,20 @@
 ghost use Rattle.std.specs.Prelude.{◌≡◌, [], ◌∷◌};
+ghost use Rattle.status.specs.Line.{after_status};
 ghost use Rattle.status.specs.Record.{fill_slots, judged_slots, fresh_slots, blank_status};
 
 use crate::ids::IdsSlots;
+use crate::line::entry;
 use crate::memory::MemorySlots;
 use crate::others::OthersSlots;
 use crate::owner::OwnerSlots;
 use crate::signals::SignalsSlots;
 use crate::spaces::SpacesSlots;
-use fields::counted::{Counted, Text, copied};
+use fields::counted::{Counted, Text};
+use fields::slots::Slots;
 use sources::fault::Fault;
 
 // What /proc/PID/status says of a process, field by field; sizes are in kB. docs/STATUS.md has what each field is.
-#[derive(Clone, Copy)]
+#[derive(Clone, Copy, Default)]
 pub struct Status {
     pub name: Text,
     pub umask: Option<u32>,
@@ -77,7 +80,7 @@ pub struct Status {
 }
 
 // A slot for each line's name, by topic; the topics are contiguous in the order of the fields.
-#[derive(Clone, Copy)]
+#[derive(Clone, Copy, Default)]
 pub struct StatusSlots {
     ids: IdsSlots,
     owner: OwnerSlots,
@@ -91,79 +94,11 @@ impl StatusSlots {
     pub fn new() -> StatusSlots
         ensures { result ≡ fresh_slots }
     {
-        StatusSlots {
-            ids: IdsSlots {
-                name: None,
-                umask: None,
-                state: None,
-                tgid: None,
-                ngid: None,
-                pid: None,
-                ppid: None,
-                tracerpid: None,
-            },
-            owner: OwnerSlots {
-                uid: None,
-                gid: None,
-            },
-            spaces: SpacesSlots {
-                fdsize: None,
-                groups: None,
-                nstgid: None,
-                nspid: None,
-                nspgid: None,
-                nssid: None,
-            },
-            memory: MemorySlots {
-                vmpeak: None,
-                vmsize: None,
-                vmlck: None,
-                vmpin: None,
-                vmhwm: None,
-                vmrss: None,
-                rssanon: None,
-                rssfile: None,
-                rssshmem: None,
-                vmdata: None,
-                vmstk: None,
-                vmexe: None,
-                vmlib: None,
-                vmpte: None,
-                vmswap: None,
-                hugetlbpages: None,
-            },
-            signals: SignalsSlots {
-                threads: None,
-                sigq: None,
-                sigpnd: None,
-                shdpnd: None,
-                sigblk: None,
-                sigign: None,
-                sigcgt: None,
-                capinh: None,
-                capprm: None,
-                capeff: None,
-                capbnd: None,
-                capamb: None,
-            },
-            others: OthersSlots {
-                nonewprivs: None,
-                seccomp: None,
-                speculation_store_bypass: None,
-                cpus_allowed: None,
-                cpus_allowed_list: None,
-                mems_allowed: None,
-                mems_allowed_list: None,
-                voluntary_ctxt_switches: None,
-                nonvoluntary_ctxt_switches: None,
-                core_dumping: None,
-                thp_enabled: None,
-            },
-        }
+        StatusSlots::default()
     }
 
     // After a line that sets the field `number`.
-    pub(crate) fn next(&mut self, number: u8, text: &str)
+    fn next(&mut self, number: u8, text: &str)
         ensures { self.new ≡ fill_slots ((number, text.now) ∷ []) self.old }
     {
         self.ids.next(number, text);
@@ -173,80 +108,32 @@ impl StatusSlots {
         self.signals.next(number, text);
         self.others.next(number, text);
     }
+}
 
-    // The record, or what is wrong with the first field that is not as it must be.
-    pub(crate) fn record(&self) -> Result<Status, Fault>
-        ensures { result ≡ judged_slots self.now }
-    {
-        let ids = self.ids.judge()?;
-        let owner = self.owner.judge()?;
-        let spaces = self.spaces.judge()?;
-        let memory = self.memory.judge()?;
-        let signals = self.signals.judge()?;
-        let others = self.others.judge()?;
-        Ok(Status {
-            name: ids.name,
-            umask: ids.umask,
-            state: ids.state,
-            tgid: ids.tgid,
-            ngid: ids.ngid,
-            pid: ids.pid,
-            ppid: ids.ppid,
-            tracerpid: ids.tracerpid,
-            ruid: owner.ruid,
-            euid: owner.euid,
-            suid: owner.suid,
-            fuid: owner.fuid,
-            rgid: owner.rgid,
-            egid: owner.egid,
-            sgid: owner.sgid,
-            fgid: owner.fgid,
-            fdsize: spaces.fdsize,
-            groups: spaces.groups,
-            nstgid: spaces.nstgid,
-            nspid: spaces.nspid,
-            nspgid: spaces.nspgid,
-            nssid: spaces.nssid,
-            vmpeak: memory.vmpeak,
-            vmsize: memory.vmsize,
-            vmlck: memory.vmlck,
-            vmpin: memory.vmpin,
-            vmhwm: memory.vmhwm,
-            vmrss: memory.vmrss,
-            rssanon: memory.rssanon,
-            rssfile: memory.rssfile,
-            rssshmem: memory.rssshmem,
-            vmdata: memory.vmdata,
-            vmstk: memory.vmstk,
-            vmexe: memory.vmexe,
-            vmlib: memory.vmlib,
-            vmpte: memory.vmpte,
-            vmswap: memory.vmswap,
-            hugetlbpages: memory.hugetlbpages,
-            threads: signals.threads,
-            sigq: signals.sigq,
-            sigpnd: signals.sigpnd,
-            shdpnd: signals.shdpnd,
-            sigblk: signals.sigblk,
-            sigign: signals.sigign,
-            sigcgt: signals.sigcgt,
-            capinh: signals.capinh,
-            capprm: signals.capprm,
-            capeff: signals.capeff,
-            capbnd: signals.capbnd,
-            capamb: signals.capamb,
-            nonewprivs: others.nonewprivs,
-            seccomp: others.seccomp,
-            speculation_store_bypass: others.speculation_store_bypass,
-            cpus_allowed: others.cpus_allowed,
-            cpus_allowed_list: others.cpus_allowed_list,
-            mems_allowed: others.mems_allowed,
-            mems_allowed_list: others.mems_allowed_list,
-            voluntary_ctxt_switches: others.voluntary_ctxt_switches,
-            nonvoluntary_ctxt_switches: others.nonvoluntary_ctxt_switches,
-            core_dumping: others.core_dumping,
-            thp_enabled: others.thp_enabled,
-        })
+impl Slots for StatusSlots {
+    type Record = Status;
+
+    ghost after = { after_status };
+
+    ghost judged = { judged_slots };
+
+    #[tactic(auto, unfolding(crate::specs::Line::after_status))]
+    fn put_line(&mut self, line: &str) -> Result<(), Fault> {
+        if let Some((number, value)) = entry(line)? {
+            self.next(number, value);
+        }
+        Ok(())
+    }
+
+    fn judge(&self) -> Result<Status, Fault> {
+        let mut status = Status::blank();
+        self.ids.judge(&mut status)?;
+        self.owner.judge(&mut status)?;
+        self.spaces.judge(&mut status)?;
+        self.memory.judge(&mut status)?;
+        self.signals.judge(&mut status)?;
+        self.others.judge(&mut status)?;
+        Ok(status)
     }
 }
 
@@ -255,71 +142,6 @@ impl Status {
     pub fn blank() -> Status
         ensures { result ≡ blank_status }
     {
-        Status {
-            name: copied(""),
-            umask: None,
-            state: copied(""),
-            tgid: 0,
-            ngid: None,
-            pid: 0,
-            ppid: 0,
-            tracerpid: 0,
-            ruid: 0,
-            euid: 0,
-            suid: 0,
-            fuid: 0,
-            rgid: 0,
-            egid: 0,
-            sgid: 0,
-            fgid: 0,
-            fdsize: 0,
-            groups: Counted {
-                cells: [0; 128],
-                len: 0,
-            },
-            nstgid: None,
-            nspid: None,
-            nspgid: None,
-            nssid: None,
-            vmpeak: None,
-            vmsize: None,
-            vmlck: None,
-            vmpin: None,
-            vmhwm: None,
-            vmrss: None,
-            rssanon: None,
-            rssfile: None,
-            rssshmem: None,
-            vmdata: None,
-            vmstk: None,
-            vmexe: None,
-            vmlib: None,
-            vmpte: None,
-            vmswap: None,
-            hugetlbpages: None,
-            threads: 0,
-            sigq: (0, 0),
-            sigpnd: 0,
-            shdpnd: 0,
-            sigblk: 0,
-            sigign: 0,
-            sigcgt: 0,
-            capinh: 0,
-            capprm: 0,
-            capeff: 0,
-            capbnd: None,
-            capamb: None,
-            nonewprivs: None,
-            seccomp: None,
-            speculation_store_bypass: None,
-            cpus_allowed: None,
-            cpus_allowed_list: None,
-            mems_allowed: None,
-            mems_allowed_list: None,
-            voluntary_ctxt_switches: None,
-            nonvoluntary_ctxt_switches: None,
-            core_dumping: None,
-            thp_enabled: None,
-        }
+        Status::default()
     }
 }

@@ -1,13 +1,15 @@
 ghost use Rattle.std.specs.Prelude.{◌≡◌, [], ◌∷◌};
+ghost use Rattle.std.specs.Result.{result_and};
 ghost use Rattle.status.specs.SignalsFields.{fill_signals, judged_signals};
 
+use crate::record::Status;
 use fields::slot::{Slot, needed, optional};
 use fields::value::{figure, pair};
 use sources::fault::Fault;
 use sources::number::Radix;
 
 // Slots of threads, signals and capabilities.
-#[derive(Clone, Copy)]
+#[derive(Clone, Copy, Default)]
 pub struct SignalsSlots {
     pub(crate) threads: Slot<u64>,
     pub(crate) sigq: Slot<(u64, u64)>,
@@ -21,23 +23,6 @@ pub struct SignalsSlots {
     pub(crate) capeff: Slot<u64>,
     pub(crate) capbnd: Slot<u64>,
     pub(crate) capamb: Slot<u64>,
-}
-
-// The fields themselves.
-#[derive(Clone, Copy)]
-pub struct Signals {
-    pub(crate) threads: u64,
-    pub(crate) sigq: (u64, u64),
-    pub(crate) sigpnd: u64,
-    pub(crate) shdpnd: u64,
-    pub(crate) sigblk: u64,
-    pub(crate) sigign: u64,
-    pub(crate) sigcgt: u64,
-    pub(crate) capinh: u64,
-    pub(crate) capprm: u64,
-    pub(crate) capeff: u64,
-    pub(crate) capbnd: Option<u64>,
-    pub(crate) capamb: Option<u64>,
 }
 
 impl SignalsSlots {
@@ -62,23 +47,22 @@ impl SignalsSlots {
         }
     }
 
-    // The fields, or what is wrong with the first that is not as it must be.
-    pub(crate) fn judge(&self) -> Result<Signals, Fault>
-        ensures { result ≡ judged_signals self.now }
+    // Sets these fields of the record, or answers what is wrong with the first that is not as it must be.
+    pub(crate) fn judge(&self, status: &mut Status) -> Result<(), Fault>
+        ensures { result_and result (Ok status.new) ≡ judged_signals self.now status.old }
     {
-        Ok(Signals {
-            threads: needed(39, self.threads)?,
-            sigq: needed(40, self.sigq)?,
-            sigpnd: needed(41, self.sigpnd)?,
-            shdpnd: needed(42, self.shdpnd)?,
-            sigblk: needed(43, self.sigblk)?,
-            sigign: needed(44, self.sigign)?,
-            sigcgt: needed(45, self.sigcgt)?,
-            capinh: needed(46, self.capinh)?,
-            capprm: needed(47, self.capprm)?,
-            capeff: needed(48, self.capeff)?,
-            capbnd: optional(49, self.capbnd)?,
-            capamb: optional(50, self.capamb)?,
-        })
+        status.threads = needed(39, self.threads)?;
+        status.sigq = needed(40, self.sigq)?;
+        status.sigpnd = needed(41, self.sigpnd)?;
+        status.shdpnd = needed(42, self.shdpnd)?;
+        status.sigblk = needed(43, self.sigblk)?;
+        status.sigign = needed(44, self.sigign)?;
+        status.sigcgt = needed(45, self.sigcgt)?;
+        status.capinh = needed(46, self.capinh)?;
+        status.capprm = needed(47, self.capprm)?;
+        status.capeff = needed(48, self.capeff)?;
+        status.capbnd = optional(49, self.capbnd)?;
+        status.capamb = optional(50, self.capamb)?;
+        Ok(())
     }
 }

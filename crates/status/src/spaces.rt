@@ -1,6 +1,8 @@
 ghost use Rattle.std.specs.Prelude.{◌≡◌, [], ◌∷◌};
+ghost use Rattle.std.specs.Result.{result_and};
 ghost use Rattle.status.specs.SpacesFields.{fill_spaces, judged_spaces};
 
+use crate::record::Status;
 use fields::counted::Counted;
 use fields::slot::{Slot, needed, optional};
 use fields::value::{figure, groups, spaces};
@@ -8,7 +10,7 @@ use sources::fault::Fault;
 use sources::number::Radix;
 
 // Slots of descriptors, groups and name spaces.
-#[derive(Clone, Copy)]
+#[derive(Clone, Copy, Default)]
 pub struct SpacesSlots {
     pub(crate) fdsize: Slot<u32>,
     pub(crate) groups: Slot<Counted<u32, 128>>,
@@ -16,17 +18,6 @@ pub struct SpacesSlots {
     pub(crate) nspid: Slot<Counted<i32, 32>>,
     pub(crate) nspgid: Slot<Counted<i32, 32>>,
     pub(crate) nssid: Slot<Counted<i32, 32>>,
-}
-
-// The fields themselves.
-#[derive(Clone, Copy)]
-pub struct Spaces {
-    pub(crate) fdsize: u32,
-    pub(crate) groups: Counted<u32, 128>,
-    pub(crate) nstgid: Option<Counted<i32, 32>>,
-    pub(crate) nspid: Option<Counted<i32, 32>>,
-    pub(crate) nspgid: Option<Counted<i32, 32>>,
-    pub(crate) nssid: Option<Counted<i32, 32>>,
 }
 
 impl SpacesSlots {
@@ -45,17 +36,16 @@ impl SpacesSlots {
         }
     }
 
-    // The fields, or what is wrong with the first that is not as it must be.
-    pub(crate) fn judge(&self) -> Result<Spaces, Fault>
-        ensures { result ≡ judged_spaces self.now }
+    // Sets these fields of the record, or answers what is wrong with the first that is not as it must be.
+    pub(crate) fn judge(&self, status: &mut Status) -> Result<(), Fault>
+        ensures { result_and result (Ok status.new) ≡ judged_spaces self.now status.old }
     {
-        Ok(Spaces {
-            fdsize: needed(17, self.fdsize)?,
-            groups: needed(18, self.groups)?,
-            nstgid: optional(19, self.nstgid)?,
-            nspid: optional(20, self.nspid)?,
-            nspgid: optional(21, self.nspgid)?,
-            nssid: optional(22, self.nssid)?,
-        })
+        status.fdsize = needed(17, self.fdsize)?;
+        status.groups = needed(18, self.groups)?;
+        status.nstgid = optional(19, self.nstgid)?;
+        status.nspid = optional(20, self.nspid)?;
+        status.nspgid = optional(21, self.nspgid)?;
+        status.nssid = optional(22, self.nssid)?;
+        Ok(())
     }
 }

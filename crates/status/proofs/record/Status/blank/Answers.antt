@@ -1,0 +1,20 @@
+use Rattle.std.proofs.Common.{rules, ◌≡◌, ℕ, [], ap, ◌∙◌}
+use Rattle.fields.specs.declared.counted.Counted.{Counted}
+use Rattle.fields.specs.Counted.{counted, text_of}
+use Rattle.status.proofs.record.Status.blank.Goals as goal
+
+-- an empty list of blank numbers
+empty : {n : ℕ} (l : Counted ℕ n) → (blank : ℕ) × (blank ≡ 0) × (l ≡ counted n blank []) → l ≡ counted n 0 []
+empty {n} l h = h.2 ∙ ap (λ b. counted n b []) h.1
+
+empty-text : (l : Counted ℕ 4096) → (blank : ℕ) × (blank ≡ 0) × (l ≡ counted 4096 blank []) → l ≡ text_of []
+unfolding text_of
+empty-text l h = empty l h
+
+pub returns : goal.returns
+returns c =
+    let r = c.default.result in
+    let name = empty-text r.name (search rules) in
+    let state = empty-text r.state (search rules) in
+    let groups = empty r.groups (search rules) in
+    search (rules, name, state, groups)
