@@ -1,6 +1,7 @@
 -- What a call over the boundary answers, and what it leaves in the caller's cells.
 use Rattle.std.specs.Prelude.{ℕ, false, cond, List, length, Ok, Err, Result, nat_lt, slice_set}
 use Rattle.sources.specs.declared.fault.Refusal.{Refusal}
+use Rattle.sources.specs.Texts.{text}
 use Rattle.sources.specs.Reasons.{number_of}
 use Rattle.kinds.specs.declared.measure.Closed.{Closed}
 use Rattle.kinds.specs.Measured.{measured}
@@ -21,8 +22,8 @@ filled (Err f) cells = four f.line f.field 0 0 cells
 
 -- Fewer than four cells are 255.
 abbrev pub answer_of : List ℕ → List ℕ → ℕ
-answer_of text cells = cond (nat_lt (length cells) 4) 255 (numbered (measured false text))
+answer_of bytes cells = cond (nat_lt (length cells) 4) 255 (numbered (measured (text bytes false)))
 
 -- And stay as they are.
 abbrev pub cells_of : List ℕ → List ℕ → List ℕ
-cells_of text cells = cond (nat_lt (length cells) 4) cells (filled (measured false text) cells)
+cells_of bytes cells = cond (nat_lt (length cells) 4) cells (filled (measured (text bytes false)) cells)

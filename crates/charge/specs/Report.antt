@@ -3,6 +3,7 @@ use Rattle.std.specs.Prelude.{ℕ, false, cond, List, ◌++◌, length, Ok, Err,
 use Rattle.sources.specs.declared.fault.Refusal.{Refusal}
 use Rattle.sources.specs.declared.reason.Reason.TheVariants.{LongText}
 use Rattle.sources.specs.Faults.{refused}
+use Rattle.sources.specs.Texts.{text}
 use Rattle.sources.specs.Reasons.{number_of}
 use Rattle.kinds.specs.declared.measure.Closed.{Closed}
 use Rattle.kinds.specs.Measured.{measured}
@@ -16,7 +17,7 @@ told (Err f) = Err (record { 0 = f })
 
 -- An input of more than 65,536 bytes is refused 3, with no line.
 abbrev pub report_of : List ℕ → Result Charged Refused
-report_of input = cond (nat_lt 65536 (length input)) (told (Err (refused LongText 0))) (told (measured false input))
+report_of input = cond (nat_lt 65536 (length input)) (told (Err (refused LongText 0))) (told (measured (text input false)))
 
 -- Numbers are written in base ten.
 abbrev pub line_of : Result Charged Refused → List ℕ

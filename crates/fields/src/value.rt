@@ -62,7 +62,7 @@ pub fn read_four(text: &str) -> Result<Four, Fault>
 }
 
 // Two numbers with `at` between them; what stands behind a second `at` is ignored.
-pub fn two_figures<T: FromStrRadix + Drop>(
+pub fn split_into_num<T: FromStrRadix + Drop>(
     text: &str,
     at: char,
     radix: Radix,
@@ -79,7 +79,7 @@ pub fn two_figures<T: FromStrRadix + Drop>(
 pub fn pair(text: &str) -> Result<(u64, u64), Fault>
     ensures { result ≡ pair_of text.now }
 {
-    two_figures(text, '/', Radix::Decimal)
+    split_into_num(text, '/', Radix::Decimal)
 }
 
 // A list of the items that the words of a text mean.

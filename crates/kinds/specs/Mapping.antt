@@ -4,12 +4,12 @@ use Rattle.std.specs.Borrow.{Bor}
 use Rattle.std.specs.Option.{ok_or}
 use Rattle.std.specs.Result.{result_map_both}
 use Rattle.sources.specs.declared.fault.Fault.{Fault}
-use Rattle.sources.specs.declared.fault.NumberFault.{NumberFault}
 use Rattle.sources.specs.declared.number.Radix.TheVariants.{Decimal, Hexadecimal}
 use Rattle.sources.specs.declared.reason.Reason.TheVariants.{Short}
+use Rattle.fields.specs.Values.{two_of}
 use Rattle.sources.specs.Faults.{fault, as_fault, and_then}
 use Rattle.sources.specs.Number.{unsigned, signed}
-use Rattle.sources.specs.Pieces.{bytes_of_2, cut_at, up_to}
+use Rattle.sources.specs.Pieces.{bytes_of_2, cut_at}
 use Rattle.kinds.specs.declared.mapping.MemoryMap.{MemoryMap}
 use Rattle.kinds.specs.Path.{Named, told, path_of}
 use Rattle.kinds.specs.Perms.{perms_of}
@@ -36,14 +36,6 @@ piece bs = ok_or (cut_at 32 bs) (fault Short)
 abbrev pub seen_piece : Result (Bor (List ℕ) × Bor (List ℕ)) Fault → Result (List ℕ × List ℕ) Fault
 seen_piece r = result_map_both bytes_of_2 (λ f. f) r
 
--- Two numbers with the character `at` between them; what stands behind a second one is ignored.
-abbrev pub pair_of : {X : Type 0} → (List ℕ → Result X NumberFault) → ℕ → List ℕ → Result (X × X) Fault
-pair_of {X} R at bs =
-    and_then (as_fault (R (up_to at bs))) (λ a.
-    and_then (ok_or (cut_at at bs) (fault Short)) (λ p.
-    and_then (as_fault (R (up_to at p.1))) (λ b.
-    Ok (a, b))))
-
 abbrev pub mapping_of : List ℕ → Result Mapping Fault
 mapping_of bs =
     and_then (piece bs) (λ a.
@@ -51,9 +43,9 @@ mapping_of bs =
     and_then (piece p.1) (λ o.
     and_then (piece o.1) (λ d.
     and_then (piece d.1) (λ i.
-    and_then (pair_of (unsigned 64 Hexadecimal) 45 a.0) (λ address.
+    and_then (two_of (unsigned 64 Hexadecimal) 45 a.0) (λ address.
     and_then (as_fault (unsigned 64 Hexadecimal o.0)) (λ offset.
-    and_then (pair_of (signed 31 Hexadecimal) 58 d.0) (λ dev.
+    and_then (two_of (signed 31 Hexadecimal) 58 d.0) (λ dev.
     and_then (as_fault (unsigned 64 Decimal i.0)) (λ inode.
     and_then (path_of i.1) (λ pathname.
     Ok (record { address = address; perms = perms_of p.0; offset = offset; dev = dev; inode = inode; pathname = pathname })))))))))))

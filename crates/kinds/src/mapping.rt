@@ -1,11 +1,12 @@
 ghost use Rattle.std.specs.Prelude.{◌≡◌};
-ghost use Rattle.kinds.specs.Mapping.{mapping_of, pair_of, piece as piece_of, seen_map, seen_piece};
+ghost use Rattle.kinds.specs.Mapping.{mapping_of, piece as piece_of, seen_map, seen_piece};
 
 use crate::path::MMapPath;
 use crate::perms::MMPermissions;
+use fields::value::split_into_num;
 use sources::fault::Fault;
 use sources::number::{FromStrRadix, Radix};
-use sources::pieces::{cut, up_to};
+use sources::pieces::cut;
 use sources::reason::Reason;
 
 // One mapping, as its line says it.
@@ -17,20 +18,6 @@ pub struct MemoryMap<'a> {
     pub dev: (i32, i32),
     pub inode: u64,
     pub pathname: MMapPath<'a>,
-}
-
-// Two numbers with `at` between them; what stands behind a second `at` is ignored.
-fn split_into_num<T: FromStrRadix + Drop>(
-    text: &str,
-    at: char,
-    radix: Radix,
-) -> Result<(T, T), Fault>
-    ensures { result ≡ pair_of (T.FromStrRadix.reading radix) at text.now }
-{
-    let a = T::from_str_radix(up_to(text, at), radix)?;
-    let (_, rest) = cut(text, at).ok_or(Fault::new(Reason::Short))?;
-    let b = T::from_str_radix(up_to(rest, at), radix)?;
-    Ok((a, b))
 }
 
 // Up to the first space, and what follows it.

@@ -68,7 +68,7 @@ stands : (broken : Bool) (l : List ℕ) → ended l ≡ true → lost broken l �
 stands true l e = ap not e
 stands false l e = refl
 
-text_cons : (l : List ℕ) (ls : List (List ℕ)) → length (text_of (l ∷ ls)) ≡ length l + length (text_of ls)
+pub text_cons : (l : List ℕ) (ls : List (List ℕ)) → length (text_of (l ∷ ls)) ≡ length l + length (text_of ls)
 unfolding text_of
 text_cons l ls = length-append l (text_of ls)
 
