@@ -1,7 +1,7 @@
 ghost use Rattle.std.specs.Prelude.{◌≡◌};
 ghost use Rattle.status.specs.Names.{field_of};
 
-// The names of lines, each with the number of the first field that its line sets.
+// The names of lines, each with the number of the first field that its line sets, as docs/STATUS.md numbers the fields and refusals tell them.
 const NAMES: [(u8, &str); 55] = [
     (1, "Name"),
     (2, "Umask"),

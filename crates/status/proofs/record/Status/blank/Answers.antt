@@ -3,10 +3,11 @@ use Rattle.fields.specs.declared.counted.Counted.{Counted}
 use Rattle.fields.specs.Counted.{counted, text_of}
 use Rattle.status.proofs.record.Status.blank.Goals as goal
 
--- an empty list of blank numbers
+-- the default of a list of numbers
 empty : {n : ℕ} (l : Counted ℕ n) → (blank : ℕ) × (blank ≡ 0) × (l ≡ counted n blank []) → l ≡ counted n 0 []
 empty {n} l h = h.2 ∙ ap (λ b. counted n b []) h.1
 
+-- that of a text, by a lemma, so that the proof below need not look at its 4096 cells
 empty-text : (l : Counted ℕ 4096) → (blank : ℕ) × (blank ≡ 0) × (l ≡ counted 4096 blank []) → l ≡ text_of []
 unfolding text_of
 empty-text l h = empty l h
