@@ -3,29 +3,41 @@
 
 mod report;
 
-ghost use Rattle.std.specs.Prelude.{◌≡◌, take, IfOk, IfSome};
-ghost use Rattle.std.specs.Option.{option_map};
+ghost use Rattle.std.specs.Prelude.{◌≤◌, length, IfOk};
 
 use report::{LONGEST, charge};
-use std::alloc::Global;
 use std::io;
 use std::io::Read;
 use std::process::ExitCode;
 
-// Reads the whole input, or one byte more than it may have.
-fn read_input<R: Read + Drop>(input: R, heap: Global) -> io::Result<Vec<u8>>
-    ensures { IfOk result (λ bytes. IfSome (option_map (take 65537) (R.remaining input)) (λ front. bytes.items ≡ front)) }
+// One byte more than an input may have.
+const ROOM: usize = LONGEST + 1;
+
+// Reads until the end of the input or of the buffer, and answers how many bytes came.
+// No Vec: it would make want of memory an error of this program, and the C library's heap a part of what it trusts.
+fn read_all<R: Read>(input: &mut R, buf: &mut [u8]) -> io::Result<usize>
+    ensures { IfOk result (λ n. n ≤ length buf.new) }
 {
-    let mut bytes = Vec::new(heap);
-    input.take(LONGEST as u64 + 1).read_to_end(&mut bytes)?;
-    Ok(bytes)
+    let mut len = 0;
+    for _ in 0..ROOM {
+        if len >= buf.len() {
+            break;
+        }
+        let n = input.read(&mut buf[len..])?;
+        if n == 0 || n > buf.len() - len {
+            break;
+        }
+        len += n;
+    }
+    Ok(len)
 }
 
 fn main(rt: HostRuntime) -> anyhow::Result<ExitCode> {
-    let input = read_input(rt.stdin(), rt.alloc())?;
-    match charge(input.as_slice()) {
-        Ok(charge) => {
-            rt.println(charge)?;
+    let mut buf = [0u8; ROOM];
+    let len = read_all(&mut rt.stdin(), &mut buf)?;
+    match charge(&buf[0..len]) {
+        Ok(charged) => {
+            rt.println(charged)?;
             Ok(ExitCode::SUCCESS)
         }
         Err(refused) => {
