@@ -12,14 +12,14 @@ Slot T = Option (Result T Fault)
 abbrev pub Entry : Type 0
 Entry = ℕ × List ℕ
 
--- The slot of the field `own`, after a line that sets the field `number`.
-abbrev pub offered : {T : Type 0} → (List ℕ → Result T Fault) → ℕ → ℕ → List ℕ → Slot T → Slot T
-offered {T} R own number text slot = cond (number == own) (Some (R text)) slot
+-- The slot of the field `own`, after a line that sets the field `number` to what A tells.
+abbrev pub offered : {A T : Type 0} → (A → Result T Fault) → ℕ → ℕ → A → Slot T → Slot T
+offered {A} {T} R own number value slot = cond (number == own) (Some (R value)) slot
 
 -- The reading of the last entry of the field `own`, of entries with the last first; the slot as it was, where none is of that field.
-abbrev pub last_of : {T : Type 0} → (List ℕ → Result T Fault) → ℕ → List Entry → Slot T → Slot T
-last_of {T} R own [] slot = slot
-last_of {T} R own (e ∷ es) slot = offered R own e.0 e.1 (last_of R own es slot)
+abbrev pub last_of : {A T : Type 0} → (A → Result T Fault) → ℕ → List (ℕ × A) → Slot T → Slot T
+last_of {A} {T} R own [] slot = slot
+last_of {A} {T} R own (e ∷ es) slot = offered R own e.0 e.1 (last_of R own es slot)
 
 -- A fault gains the number of its field.
 abbrev pub at_field : {T : Type 0} → ℕ → Result T Fault → Result T Fault

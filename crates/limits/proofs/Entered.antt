@@ -3,7 +3,7 @@ use Rattle.std.proofs.Common.{◌≡◌, ◌==◌, ℕ, zero, suc, ◌+◌, ◌<
 use Rattle.std.specs.List.{enumerate_from}
 use Rattle.fields.specs.Slots.{Slot}
 use Rattle.limits.specs.declared.limit.Limit.{Limit}
-use Rattle.limits.specs.Record.{last_of}
+use Rattle.fields.specs.Slots.{last_of}
 use Rattle.limits.specs.Values.{limit_of}
 use Rattle.std.proofs.lemmas.Bool.Decides.{nat_tests}
 
@@ -27,5 +27,5 @@ module _ {X : Type 0} (number : ℕ) (new : X) where
       let e : (number == n) ≡ false = grind (arith, nat_tests) in
       rw e (ap (λ ys. x ∷ ys) (one_set (n + 1) place xs (omega arith)))
 
-pub slot_set : (slots : List (Slot Limit)) (place : ℕ) (soft hard : List ℕ) → set slots place (Some (limit_of soft hard)) ≡ map (λ p. last_of p.0 ((place + 1, soft, hard) ∷ []) p.1) (enumerate_from 1 slots)
+pub slot_set : (slots : List (Slot Limit)) (place : ℕ) (soft hard : List ℕ) → set slots place (Some (limit_of soft hard)) ≡ map (λ p. last_of (λ (words : List ℕ × List ℕ). limit_of words.0 words.1) p.0 ((place + 1, (soft, hard)) ∷ []) p.1) (enumerate_from 1 slots)
 slot_set slots place soft hard = sym (one_set (place + 1) (Some (limit_of soft hard)) 1 place slots refl)

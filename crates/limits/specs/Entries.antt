@@ -10,9 +10,9 @@ use Rattle.limits.specs.declared.line.Setting.{Setting}
 use Rattle.limits.specs.Names.{place_of}
 use Rattle.limits.specs.Words.{word_at}
 
--- The number of a field, the soft limit and the hard one.
+-- The number of a field, with the soft limit and the hard one.
 abbrev pub Entry : Type 0
-Entry = ℕ × List ℕ × List ℕ
+Entry = ℕ × (List ℕ × List ℕ)
 
 -- Whether a trimmed line is the heading.
 abbrev pub is_heading : List ℕ → Bool
@@ -36,7 +36,7 @@ place_in t = place_of (take (name_length t) (white_words t))
 
 -- The entry of a trimmed line of three words or more: fields are numbered from 1 on, in the order of their names.
 abbrev pub named : List ℕ → Option Entry
-named t = option_map (λ place. (place + 1, word_at (name_length t) (white_words t), word_at (name_length t + 1) (white_words t))) (place_in t)
+named t = option_map (λ place. (place + 1, (word_at (name_length t) (white_words t), word_at (name_length t + 1) (white_words t)))) (place_in t)
 
 -- The entry of a trimmed line.
 abbrev pub trimmed_entry : List ℕ → Result (Option Entry) Fault
@@ -56,7 +56,7 @@ is_foreign line = trimmed_foreign (trim line)
 
 -- What an entry that borrows its line says.
 abbrev pub told_entry : Setting → Entry
-told_entry s = (s.place + 1, s.soft.now, s.hard.now)
+told_entry s = (s.place + 1, (s.soft.now, s.hard.now))
 
 abbrev pub seen_entry : Result (Option Setting) Fault → Result (Option Entry) Fault
 seen_entry (Ok o) = Ok (option_map told_entry o)

@@ -23,7 +23,7 @@ no_entry false n (Some k) entry e = absurd (grind (arith, nat_tests))
 pub foreign_empty : (line : List ℕ) → is_foreign line ≡ true → entry_of line ≡ Ok None
 foreign_empty line f =
     let t = trim line in
-    no_entry (is_heading t) (length (white_words t)) (place_in t) (λ place. (place + 1, word_at (name_length t) (white_words t), word_at (name_length t + 1) (white_words t))) f
+    no_entry (is_heading t) (length (white_words t)) (place_in t) (λ place. (place + 1, (word_at (name_length t) (white_words t), word_at (name_length t + 1) (white_words t)))) f
 
 -- A foreign line changes nothing.
 pub foreign_aside : (s : LimitsSlots) (line : List ℕ) → is_foreign line ≡ true → after_limits s line ≡ Ok s

@@ -1,9 +1,9 @@
 -- The record of limits and its slots: what an entry sets, what a line leaves, and how closing judges them.
-use Rattle.std.specs.Prelude.{ℕ, zero, suc, ◌+◌, ◌-◌, cond, List, [], ◌∷◌, map, Some, None, Ok, Result, ◌==◌, replicate, slice_index_or}
+use Rattle.std.specs.Prelude.{ℕ, zero, suc, ◌+◌, ◌-◌, List, [], ◌∷◌, map, None, Ok, Result, replicate, slice_index_or}
 use Rattle.sources.specs.declared.fault.Fault.{Fault}
 use Rattle.sources.specs.Faults.{and_then}
 use Rattle.std.specs.List.{enumerate_from}
-use Rattle.fields.specs.Slots.{Slot, needed, after_entry}
+use Rattle.fields.specs.Slots.{Slot, last_of, needed, after_entry}
 use Rattle.limits.specs.declared.limit.LimitValue.TheVariants.{Value}
 use Rattle.limits.specs.declared.limit.Limit.{Limit}
 use Rattle.limits.specs.declared.record.Limits.{Limits}
@@ -48,14 +48,9 @@ blank_limits = limits_of (replicate 16 nothing)
 abbrev pub fresh : LimitsSlots
 fresh = record { slots = replicate 16 None }
 
--- What the last entry of the field `own` leaves in its slot, of entries with the last first.
-abbrev pub last_of : ℕ → List Entry → Slot Limit → Slot Limit
-last_of own [] slot = slot
-last_of own (e ∷ es) slot = cond (e.0 == own) (Some (limit_of e.1 e.2)) (last_of own es slot)
-
 -- The slots, numbered from 1 on, after entries with the last first.
 abbrev pub fill_limits : List Entry → LimitsSlots → LimitsSlots
-fill_limits es s = record { slots = map (λ p. last_of p.0 es p.1) (enumerate_from 1 s.slots) }
+fill_limits es s = record { slots = map (λ p. last_of (λ (words : List ℕ × List ℕ). limit_of words.0 words.1) p.0 es p.1) (enumerate_from 1 s.slots) }
 
 -- The slots after a line, or what is wrong with it.
 abbrev pub after_limits : LimitsSlots → List ℕ → Result LimitsSlots Fault

@@ -10,7 +10,7 @@ use Rattle.limits.specs.Values.{limit_of}
 
 -- What a line says of the field k.
 abbrev pub says : ℕ → List ℕ → List ℕ → Result (Option Entry) Fault
-says k soft hard = Ok (Some (k, soft, hard))
+says k soft hard = Ok (Some (k, (soft, hard)))
 
 abbrev pub Samples : Type 0
 Samples =
@@ -29,4 +29,4 @@ Samples =
     × (limit_of (codes "18446744073709551616") (codes "x") ≡ Err (fault Figure))
     × (limit_of (codes "Unlimited") (codes "0") ≡ Err (fault Figure))
     × (judged_limits fresh ≡ Err (record { reason = Absent; field = 1 }))
-    × (judged_limits (fill_limits ((2, codes "1", codes "-1") ∷ (1, codes "1", codes "2") ∷ []) fresh) ≡ Err (record { reason = Figure; field = 2 }))
+    × (judged_limits (fill_limits ((2, (codes "1", codes "-1")) ∷ (1, (codes "1", codes "2")) ∷ []) fresh) ≡ Err (record { reason = Figure; field = 2 }))

@@ -49,14 +49,6 @@ pub record Filled (buf text : List ℕ) (n : ℕ) (buf' text' : List ℕ) : Type
   pub fills : buf' ≡ take n text ++ drop n buf
   pub moves : text' ≡ drop n text
 
--- the next part, moved behind them
-pub record Moved (buf text : List ℕ) (n : ℕ) (buf' text' : List ℕ) : Type 0 where
-  pub some : 0 < n
-  pub within : n ≤ length buf
-  pub line : n ≤ through text
-  pub fills : buf' ≡ take n text ++ drop n buf
-  pub moves : text' ≡ drop n text
-
 take-plus : (n k : ℕ) (xs : List ℕ) → take (n + k) xs ≡ take n xs ++ take k (drop n xs)
 take-plus zero k xs = rw zero-add
 take-plus (suc n) k [] = ap (λ (j : ℕ). take j []) z ∙ sym (take_all k [] (omega arith))
@@ -77,7 +69,7 @@ put_rest : (n : ℕ) (xs ys : List ℕ) → put_mid n (length xs - n) xs ys ≡ 
 put_rest n xs ys = ap (λ (l : List ℕ). take n xs ++ (ys ++ l)) (drop_all (length xs - n) (drop n xs) (simp length-drop (omega arith))) ∙ ap (λ (l : List ℕ). take n xs ++ l) (append-nil ys)
 
 pub more-moved : {buf text : List ℕ} {n : ℕ} {buf' text' : List ℕ} {k : ℕ} {r2 buf2 text'' : List ℕ} → Filled buf text n buf' text' → r2 ≡ take (length buf' - n) (drop n buf') → Part r2 text' k buf2 text'' →
-    Moved buf text (n + k) (put_mid n (length buf' - n) buf' buf2) text''
+    Part buf text (n + k) (put_mid n (length buf' - n) buf' buf2) text''
 more-moved {buf} {text} {n} {buf'} {text'} {k} {r2} {buf2} {text''} f e p =
     let w = front_is f in
     let r : r2 ≡ drop n buf = e ∙ take_rest buf' n ∙ w.1 in
@@ -95,7 +87,7 @@ more-moved {buf} {text} {n} {buf'} {text'} {k} {r2} {buf2} {text''} f e p =
     }
 
 -- the piece ends here
-pub moved-end : {buf text : List ℕ} {n : ℕ} {buf' text' : List ℕ} {broken broken' : Bool} → Moved buf text n buf' text' → broken' ≡ broken → (n ≡ length buf) ⊎ (get_or buf' (n - 1) 0 ≡ 10) → Given buf (told text broken) (Bytes n) buf' (told text' broken')
+pub moved-end : {buf text : List ℕ} {n : ℕ} {buf' text' : List ℕ} {broken broken' : Bool} → Part buf text n buf' text' → broken' ≡ broken → (n ≡ length buf) ⊎ (get_or buf' (n - 1) 0 ≡ 10) → Given buf (told text broken) (Bytes n) buf' (told text' broken')
 moved-end {buf} {text} {n} {buf'} {text'} {broken} {broken'} m k e =
     let t = through-≤ text in
     rw k (given_bytes buf text broken n buf' text' (omega (arith, m.some, m.line)) (is e) m.fills m.moves)
@@ -114,7 +106,7 @@ moved-end {buf} {text} {n} {buf'} {text'} {broken} {broken'} m k e =
     is (inr h) = omega (arith, m.line, m.within, at h)
 
 -- or goes on
-pub moved_on : {buf text : List ℕ} {n : ℕ} {buf' text' : List ℕ} → Moved buf text n buf' text' → (n ≡ length buf → ⊥) → (get_or buf' (n - 1) 0 ≡ 10 → ⊥) → Filled buf text n buf' text'
+pub moved_on : {buf text : List ℕ} {n : ℕ} {buf' text' : List ℕ} → Part buf text n buf' text' → (n ≡ length buf → ⊥) → (get_or buf' (n - 1) 0 ≡ 10 → ⊥) → Filled buf text n buf' text'
 moved_on {buf} {text} {n} {buf'} {text'} m e b =
     let t = through-≤ text in
     let l : length (take n text) ≡ n = length-take-le n text (omega (arith, m.line)) in
@@ -136,7 +128,7 @@ moved_on {buf} {text} {n} {buf'} {text'} m e b =
               let ih = through-on xs m (omega arith) q in omega arith
         ]
 
-pub moved_length : {buf text : List ℕ} {n : ℕ} {buf' text' : List ℕ} → Moved buf text n buf' text' → length buf' ≡ length buf
+pub moved_length : {buf text : List ℕ} {n : ℕ} {buf' text' : List ℕ} → Part buf text n buf' text' → length buf' ≡ length buf
 moved_length {buf} {text} {n} {buf'} {text'} m =
     let t = through-≤ text in
     let l : length (take n text) ≡ n = length-take-le n text (omega (arith, m.line)) in
