@@ -49,16 +49,16 @@ mod tests {
     fn pieces(rt: HostRuntime) {
         let mut source = Held::new(b"ab\ncd");
         let mut buf = [7u8; 4];
-        assert!(rt; matches!(source.piece(&mut buf[0..0]), Piece::Bytes(0)));
-        assert!(rt; matches!(source.piece(&mut buf[0..2]), Piece::Bytes(2)));
+        assert_eq!(rt; source.piece(&mut buf[0..0]), Piece::Bytes(0));
+        assert_eq!(rt; source.piece(&mut buf[0..2]), Piece::Bytes(2));
         assert_eq!(rt; buf, [b'a', b'b', 7, 7]);
-        assert!(rt; matches!(source.piece(&mut buf), Piece::Bytes(1)));
+        assert_eq!(rt; source.piece(&mut buf), Piece::Bytes(1));
         assert_eq!(rt; buf, [10, b'b', 7, 7]);
-        assert!(rt; matches!(source.piece(&mut buf), Piece::Bytes(2)));
+        assert_eq!(rt; source.piece(&mut buf), Piece::Bytes(2));
         assert_eq!(rt; buf, [b'c', b'd', 7, 7]);
-        assert!(rt; matches!(source.piece(&mut buf[0..0]), Piece::Bytes(0)));
-        assert!(rt; matches!(source.piece(&mut buf), Piece::Ended));
-        assert!(rt; matches!(source.piece(&mut buf), Piece::Ended));
+        assert_eq!(rt; source.piece(&mut buf[0..0]), Piece::Bytes(0));
+        assert_eq!(rt; source.piece(&mut buf), Piece::Ended);
+        assert_eq!(rt; source.piece(&mut buf), Piece::Ended);
     }
 
     #[test]
