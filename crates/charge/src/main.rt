@@ -14,7 +14,7 @@ use std::process::ExitCode;
 const ROOM: usize = LONGEST + 1;
 
 // Reads until the end of the input or of the buffer, and answers how many bytes came.
-// No Vec: it would make want of memory an error of this program, and the C library's heap a part of what it trusts.
+// No Vec, and so no heap: want of memory would be an error of this program.
 fn read_all<R: Read>(input: &mut R, buf: &mut [u8]) -> io::Result<usize>
     ensures { IfOk result (λ n. n ≤ length buf.new) }
 {

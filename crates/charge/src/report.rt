@@ -78,7 +78,7 @@ mod tests {
         let mut input = vec![in heap; b'A'; n]?;
         input.extend_from_slice(end)?;
         match charge(input.as_slice()) {
-            Ok(charge) => charge.to_string(heap),
+            Ok(charged) => charged.to_string(heap),
             Err(refused) => refused.to_string(heap),
         }
     }

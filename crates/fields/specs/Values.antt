@@ -1,16 +1,15 @@
 -- How the value of a field is read.
 use Rattle.std.specs.Prelude.{ℕ, Bool, List, ℤ, pos, Some, None, Ok, Err, codes, Option, Result, ◌==◌}
 use Rattle.std.specs.List.{slice_split}
-use Rattle.std.specs.Option.{ok_or, unwrap_or}
+use Rattle.std.specs.Option.{unwrap_or}
 use Rattle.std.specs.Str.{bytes_eq}
 use Rattle.sources.specs.declared.fault.Fault.{Fault}
-use Rattle.sources.specs.declared.fault.NumberFault.{NumberFault}
 use Rattle.sources.specs.declared.number.Radix.{Radix}
 use Rattle.sources.specs.declared.number.Radix.TheVariants.{Decimal, Hexadecimal}
 use Rattle.sources.specs.declared.reason.Reason.TheVariants.{Short}
-use Rattle.sources.specs.Faults.{fault, as_fault, and_then}
-use Rattle.sources.specs.Number.{signed, unsigned}
-use Rattle.sources.specs.Pieces.{cut_at, up_to, shorn}
+use Rattle.sources.specs.Faults.{fault, as_fault}
+use Rattle.sources.specs.Number.{signed, two_of, unsigned}
+use Rattle.sources.specs.Pieces.{shorn}
 use Rattle.sources.specs.White.{nth, white_words}
 use Rattle.fields.specs.declared.counted.Counted.{Counted}
 use Rattle.fields.specs.declared.list.ListFault.{ListFault}
@@ -39,14 +38,6 @@ word_of (Some w) = figure_of 32 Decimal w
 abbrev pub four_of : List ℕ → Result Four Fault
 four_of bs =
     let ws = white_words bs in Ok (record { real = word_of (nth 0 ws); effective = word_of (nth 1 ws); saved = word_of (nth 2 ws); filesystem = word_of (nth 3 ws) })
-
--- Two numbers with the character `at` between them; what stands behind a second one is ignored.
-abbrev pub two_of : {X : Type 0} → (List ℕ → Result X NumberFault) → ℕ → List ℕ → Result (X × X) Fault
-two_of {X} R at bs =
-    and_then (as_fault (R (up_to at bs))) (λ a.
-    and_then (ok_or (cut_at at bs) (fault Short)) (λ p.
-    and_then (as_fault (R (up_to at p.1))) (λ b.
-    Ok (a, b))))
 
 -- Two numbers with a slash between them.
 abbrev pub pair_of : List ℕ → Result (ℕ × ℕ) Fault

@@ -4,14 +4,14 @@ ghost use Rattle.sources.specs.Faults.{as_fault};
 ghost use Rattle.sources.specs.Pieces.{bytes_of};
 ghost use Rattle.sources.specs.White.{white_words};
 ghost use Rattle.fields.specs.Lists.{IsFilled};
-ghost use Rattle.fields.specs.Values.{comma_parts, kilobytes_of, word_of, four_of, two_of, pair_of, groups_of, spaces_of, mask_of, ranges_of, flag_of};
+ghost use Rattle.fields.specs.Values.{comma_parts, kilobytes_of, word_of, four_of, pair_of, groups_of, spaces_of, mask_of, ranges_of, flag_of};
 
 use crate::counted::Counted;
 use crate::item::{Group, Item, Process, Range, Word};
 use crate::list::{ListFault, read_list};
 use sources::fault::Fault;
-use sources::number::{FromStrRadix, Radix};
-use sources::pieces::{cut, shorn, up_to};
+use sources::number::{FromStrRadix, Radix, split_into_num};
+use sources::pieces::shorn;
 use sources::reason::Reason;
 
 // A number.
@@ -59,20 +59,6 @@ pub fn read_four(text: &str) -> Result<Four, Fault>
         saved,
         filesystem,
     })
-}
-
-// Two numbers with `at` between them; what stands behind a second `at` is ignored.
-pub fn split_into_num<T: FromStrRadix + Drop>(
-    text: &str,
-    at: char,
-    radix: Radix,
-) -> Result<(T, T), Fault>
-    ensures { result ≡ two_of (T.FromStrRadix.reading radix) at text.now }
-{
-    let first = figure(up_to(text, at), radix)?;
-    let (_, rest) = cut(text, at).ok_or(Fault::new(Reason::Short))?;
-    let second = figure(up_to(rest, at), radix)?;
-    Ok((first, second))
 }
 
 // Two numbers with a slash between them.

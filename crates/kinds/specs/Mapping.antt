@@ -6,9 +6,8 @@ use Rattle.std.specs.Result.{result_map_both}
 use Rattle.sources.specs.declared.fault.Fault.{Fault}
 use Rattle.sources.specs.declared.number.Radix.TheVariants.{Decimal, Hexadecimal}
 use Rattle.sources.specs.declared.reason.Reason.TheVariants.{Short}
-use Rattle.fields.specs.Values.{two_of}
 use Rattle.sources.specs.Faults.{fault, as_fault, and_then}
-use Rattle.sources.specs.Number.{unsigned, signed}
+use Rattle.sources.specs.Number.{unsigned, signed, two_of}
 use Rattle.sources.specs.Pieces.{bytes_of_2, cut_at}
 use Rattle.kinds.specs.declared.mapping.MemoryMap.{MemoryMap}
 use Rattle.kinds.specs.Path.{Named, told, path_of}

@@ -3,9 +3,8 @@ ghost use Rattle.kinds.specs.Mapping.{mapping_of, piece as piece_of, seen_map, s
 
 use crate::path::MMapPath;
 use crate::perms::MMPermissions;
-use fields::value::split_into_num;
 use sources::fault::Fault;
-use sources::number::{FromStrRadix, Radix};
+use sources::number::{FromStrRadix, Radix, split_into_num};
 use sources::pieces::cut;
 use sources::reason::Reason;
 

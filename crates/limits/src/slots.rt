@@ -12,7 +12,7 @@ use sources::fault::Fault;
 // What the last line of each limit's name left, in the order of the fields.
 #[derive(Clone, Copy)]
 pub struct LimitsSlots {
-    slots: [Slot<Limit>; 16],
+    pub slots: [Slot<Limit>; 16],
 }
 
 impl LimitsSlots {

@@ -2,8 +2,13 @@
 use Rattle.std.specs.Prelude.{ℕ, ◌^◌, Bool, true, cond, ◌&&◌, List, [], ◌∷◌, length, ℤ, Ok, Err, Result, nat_le, nat_lt}
 use Rattle.std.specs.Str.Parse.{digits_value, signed_digits_value, without_leading_plus, without_leading_sign, starts_with_minus}
 use Rattle.std.specs.Char.{digit_value}
+use Rattle.std.specs.Option.{ok_or}
 use Rattle.sources.specs.declared.fault.NumberFault.{NumberFault}
 use Rattle.sources.specs.declared.fault.NumberFault.TheVariants.{Unreadable}
+use Rattle.sources.specs.declared.fault.Fault.{Fault}
+use Rattle.sources.specs.declared.reason.Reason.TheVariants.{Short}
+use Rattle.sources.specs.Faults.{fault, as_fault, and_then}
+use Rattle.sources.specs.Pieces.{cut_at, up_to}
 use Rattle.sources.specs.declared.number.Radix.{Radix}
 use Rattle.sources.specs.declared.number.Radix.TheVariants.{Octal, Decimal, Hexadecimal}
 
@@ -39,3 +44,11 @@ within bits base bs =
 abbrev pub signed : ℕ → Radix → List ℕ → Result ℤ NumberFault
 signed bits radix bs =
     fitting (numeral (base_of radix) (without_leading_sign bs) && within bits (base_of radix) bs) (signed_digits_value (base_of radix) bs)
+
+-- Two numbers with the character `at` between them; what stands behind a second one is ignored.
+abbrev pub two_of : {X : Type 0} → (List ℕ → Result X NumberFault) → ℕ → List ℕ → Result (X × X) Fault
+two_of {X} R at bs =
+    and_then (as_fault (R (up_to at bs))) (λ a.
+    and_then (ok_or (cut_at at bs) (fault Short)) (λ p.
+    and_then (as_fault (R (up_to at p.1))) (λ b.
+    Ok (a, b))))

@@ -2,9 +2,11 @@ ghost use Rattle.std.specs.Prelude.{◌≡◌, ℕ, List, Result as ResultOf};
 ghost use Rattle.sources.specs.declared.fault.NumberFault.{NumberFault as FaultOf};
 ghost use Rattle.sources.specs.declared.fault.NumberFault.TheVariants.{Unreadable};
 ghost use Rattle.sources.specs.declared.number.Radix.{Radix as RadixOf};
-ghost use Rattle.sources.specs.Number.{base_of, unsigned, signed};
+ghost use Rattle.sources.specs.Number.{base_of, unsigned, signed, two_of};
 
-use crate::fault::NumberFault;
+use crate::fault::{Fault, NumberFault};
+use crate::pieces::{cut, up_to};
+use crate::reason::Reason;
 use std::num::ParseIntError;
 
 // The base in which a number is written.
@@ -75,4 +77,18 @@ impl FromStrRadix for i64 {
     fn from_str_radix(t: &str, radix: Radix) -> Result<i64, NumberFault> {
         i64::from_str_radix(t, radix.base()).map_err(NumberFault::from)
     }
+}
+
+// Two numbers with `at` between them; what stands behind a second `at` is ignored.
+pub fn split_into_num<T: FromStrRadix + Drop>(
+    text: &str,
+    at: char,
+    radix: Radix,
+) -> Result<(T, T), Fault>
+    ensures { result ≡ two_of (T.FromStrRadix.reading radix) at text.now }
+{
+    let first = T::from_str_radix(up_to(text, at), radix)?;
+    let (_, rest) = cut(text, at).ok_or(Fault::new(Reason::Short))?;
+    let second = T::from_str_radix(up_to(rest, at), radix)?;
+    Ok((first, second))
 }

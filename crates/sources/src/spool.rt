@@ -17,7 +17,7 @@ pub struct Spool<'a> {
     used: usize,
 }
 
-// How many text bytes a record has.
+// How many text bytes a record has; that it is whole is said for callers, which see no length in its type.
 fn size(one: &Record) -> usize
     ensures size { result ≡ min (slice_index one.now 0) 62 }
     ensures whole { length one.now ≡ 64 }

@@ -1,5 +1,5 @@
 -- The slots of a status record, the record that they are judged to be, and a blank one.
-use Rattle.std.specs.Prelude.{List, [], pos, None, Result}
+use Rattle.std.specs.Prelude.{◌≡◌, List, [], pos, None, Result}
 use Rattle.sources.specs.declared.fault.Fault.{Fault}
 use Rattle.sources.specs.Faults.{and_then}
 use Rattle.fields.specs.Counted.{counted, text_of}
@@ -101,12 +101,19 @@ blank_status = record {
   thp_enabled = None;
 }
 
--- The fields, judged in order, from 1 to 61.
-abbrev pub judged_slots : StatusSlots → Result Status Fault
-judged_slots s =
-    and_then (judged_ids s.ids blank_status) (λ status.
+-- The fields, judged in order, from 1 to 61, and set in a record.
+abbrev pub judged_into : Status → StatusSlots → Result Status Fault
+judged_into status s =
+    and_then (judged_ids s.ids status) (λ status.
     and_then (judged_owner s.owner status) (λ status.
     and_then (judged_spaces s.spaces status) (λ status.
     and_then (judged_memory s.memory status) (λ status.
     and_then (judged_signals s.signals status) (λ status.
     judged_others s.others status)))))
+
+abbrev pub judged_slots : StatusSlots → Result Status Fault
+judged_slots s = judged_into blank_status s
+
+-- Every field is set: what is judged is the same, whatever the record held before.
+abbrev pub SetsEveryField : Type 0
+SetsEveryField = (s : StatusSlots) (a b : Status) → judged_into a s ≡ judged_into b s

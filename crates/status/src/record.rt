@@ -1,6 +1,6 @@
 ghost use Rattle.std.specs.Prelude.{◌≡◌, [], ◌∷◌};
 ghost use Rattle.status.specs.Line.{after_status};
-ghost use Rattle.status.specs.Record.{fill_slots, judged_slots, fresh_slots, blank_status};
+ghost use Rattle.status.specs.Record.{fill_slots, judged_slots, fresh_slots, blank_status, SetsEveryField};
 
 use crate::ids::IdsSlots;
 use crate::line::entry;
@@ -80,6 +80,7 @@ pub struct Status {
 }
 
 // A slot for each line's name, by topic; the topics are contiguous in the order of the fields.
+// The topics are alike, but their fields are of many types, and a slot that knew its own number would take as many lines a field.
 #[derive(Clone, Copy, Default)]
 pub struct StatusSlots {
     ids: IdsSlots,
@@ -97,7 +98,7 @@ impl StatusSlots {
         StatusSlots::default()
     }
 
-    // After a line that sets the field `number`.
+    // After a line that sets the field `number`. Each topic matches it against its own: slots of many types stand in no table of functions.
     fn next(&mut self, number: u8, text: &str)
         ensures { self.new ≡ fill_slots ((number, text.now) ∷ []) self.old }
     {
@@ -140,7 +141,8 @@ impl Slots for StatusSlots {
 impl Status {
     // What a record holds after a refusal: zeros, nothing where a field may be missing, and empty texts and lists.
     pub fn blank() -> Status
-        ensures { result ≡ blank_status }
+        ensures blank { result ≡ blank_status }
+    ensures start { SetsEveryField }
     {
         Status::default()
     }

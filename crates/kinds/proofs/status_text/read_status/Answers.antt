@@ -12,5 +12,5 @@ pub returns : goal.returns
 returns g c =
     let t = g.S.Source.text c.args.source.now in
     let e = c.fill.ensures.reading ∙ ap (λ (m : Result StatusSlots Fault). reading status_rules m t) c.new-text.ensures in
-    let h = given blank_status (Shown t) (shown t) e c.blank.ensures c.put_record.ensures.answer c.put_record.ensures.holds in
+    let h = given blank_status (Shown t) (shown t) e c.blank.ensures.blank c.put_record.ensures.answer c.put_record.ensures.holds in
     record { defined = h.defined; lines = h.lines; editions = h.editions }

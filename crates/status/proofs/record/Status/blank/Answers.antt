@@ -1,6 +1,7 @@
 use Rattle.std.proofs.Common.{rules, ◌≡◌, ℕ, [], ap, ◌∙◌}
 use Rattle.fields.specs.declared.counted.Counted.{Counted}
 use Rattle.fields.specs.Counted.{counted, text_of}
+use Rattle.status.proofs.Every.{sets_every_field}
 use Rattle.status.proofs.record.Status.blank.Goals as goal
 
 -- the default of a list of numbers
@@ -12,10 +13,13 @@ empty-text : (l : Counted ℕ 4096) → (blank : ℕ) × (blank ≡ 0) × (l ≡
 unfolding text_of
 empty-text l h = empty l h
 
-pub returns : goal.returns
-returns c =
+pub returns-clause-blank : goal.returns-clause-blank
+returns-clause-blank c =
     let r = c.default.result in
     let name = empty-text r.name (search rules) in
     let state = empty-text r.state (search rules) in
     let groups = empty r.groups (search rules) in
     search (rules, name, state, groups)
+
+pub returns-clause-start : goal.returns-clause-start
+returns-clause-start c = sets_every_field
