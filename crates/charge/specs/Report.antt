@@ -12,7 +12,7 @@ use Rattle.charge.specs.declared.report.Refused.{Refused}
 
 -- What is charged for a measure.
 abbrev pub told : Result Closed Refusal → Result Charged Refused
-told (Ok c) = Ok (record { mappings = c.mappings; totals = c.totals })
+told (Ok c) = Ok (record { 0 = c })
 told (Err f) = Err (record { 0 = f })
 
 -- An input of more than 65,536 bytes is refused 3, with no line.
@@ -21,5 +21,5 @@ report_of input = cond (nat_lt 65536 (length input)) (told (Err (refused LongTex
 
 -- Numbers are written in base ten.
 abbrev pub line_of : Result Charged Refused → List ℕ
-line_of (Ok c) = codes "mappings " ++ (decimal c.mappings ++ (codes " rss " ++ (decimal c.totals.rss ++ (codes " pss " ++ (decimal c.totals.pss ++ (codes " swappss " ++ decimal c.totals.swap_pss))))))
+line_of (Ok c) = codes "mappings " ++ (decimal c.0.mappings ++ (codes " rss " ++ (decimal c.0.totals.rss ++ (codes " pss " ++ (decimal c.0.totals.pss ++ (codes " swappss " ++ decimal c.0.totals.swap_pss))))))
 line_of (Err r) = codes "refused " ++ (decimal (number_of r.0.reason) ++ (codes " line " ++ decimal r.0.line))

@@ -1,7 +1,7 @@
 ghost use Rattle.std.specs.Prelude.{◌≡◌, Ok, Err, Some};
 ghost use Rattle.charge.specs.Report.{report_of, line_of};
 
-use kinds::measure::{Figures, measure};
+use kinds::measure::{Closed, Figures, measure};
 use sources::fault::Refusal;
 use sources::held::Held;
 use sources::reason::Reason;
@@ -11,12 +11,9 @@ use std::fmt;
 // The longest input.
 pub const LONGEST: usize = 65536;
 
-// What an input is charged: its mappings and totals.
-#[derive(Debug, Drop)]
-pub struct Charged {
-    pub mappings: u32,
-    pub totals: Figures,
-}
+// What an input is charged for.
+#[derive(Drop)]
+pub struct Charged(pub Closed);
 
 // Why an input is not charged.
 #[derive(Debug, Drop)]
@@ -26,8 +23,8 @@ impl fmt::Display for Charged {
     ghost output = { λ c. Some (line_of (Ok c)) };
 
     fn fmt<W: fmt::Write>(&self, f: &mut fmt::Formatter<W>) -> fmt::Result {
-        let mappings = self.mappings;
-        let Figures { rss, pss, swap_pss } = self.totals;
+        let mappings = self.0.mappings();
+        let Figures { rss, pss, swap_pss } = self.0.totals();
         write!(
             f,
             "mappings {mappings} rss {rss} pss {pss} swappss {swap_pss}"
@@ -60,11 +57,7 @@ pub fn charge(input: &[u8]) -> Result<Charged, Refused>
     if input.len() > LONGEST {
         return Err(Refused(Refusal::new(Reason::LongText, 0)));
     }
-    let closed = measure(&mut Held::new(input))?;
-    Ok(Charged {
-        mappings: closed.mappings(),
-        totals: closed.totals(),
-    })
+    Ok(Charged(measure(&mut Held::new(input))?))
 }
 
 #[cfg(test)]

@@ -35,9 +35,9 @@ word_of None = Err (fault Short)
 word_of (Some w) = figure_of 32 Decimal w
 
 -- The first four words: each is judged by itself.
-abbrev pub four_of : List ℕ → Result Four Fault
+abbrev pub four_of : List ℕ → Four
 four_of bs =
-    let ws = white_words bs in Ok (record { real = word_of (nth 0 ws); effective = word_of (nth 1 ws); saved = word_of (nth 2 ws); filesystem = word_of (nth 3 ws) })
+    let ws = white_words bs in record { real = word_of (nth 0 ws); effective = word_of (nth 1 ws); saved = word_of (nth 2 ws); filesystem = word_of (nth 3 ws) }
 
 -- Two numbers with a slash between them.
 abbrev pub pair_of : List ℕ → Result (ℕ × ℕ) Fault

@@ -12,6 +12,7 @@ fn front<T>(items: &[T], n: usize) -> &[T]
 }
 
 // A list of at most N items: the first `len` cells count, and the others are blank. The libraries allocate nothing, so it is a table with a count, which is `Copy`, and no `Vec`.
+// No ghost field bounds `len`, since definitions make such lists too.
 #[derive(Clone, Copy)]
 pub struct Counted<T, const N: usize> {
     pub cells: [T; N],

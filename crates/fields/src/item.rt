@@ -19,7 +19,7 @@ pub trait Item {
         ensures { result ≡ reading piece.now };
 }
 
-// A base of numbers, as a type.
+// A base of numbers, as a type, since a const parameter is a number or a `bool`.
 pub trait Base {
     ghost RADIX: { RadixOf };
 

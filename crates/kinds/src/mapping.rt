@@ -19,7 +19,7 @@ pub struct MemoryMap<'a> {
     pub pathname: MMapPath<'a>,
 }
 
-// Up to the first space, and what follows it.
+// Up to the first space, and what follows it. A call a piece, and no `splitn`, since each missing piece is refused by `?`.
 fn piece(text: &str) -> Result<(&str, &str), Fault>
     ensures { seen_piece result ≡ piece_of text.now }
 {

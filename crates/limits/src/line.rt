@@ -1,8 +1,7 @@
-ghost use Rattle.std.specs.Prelude.{◌≡◌, ◌<◌, IfOk, IfSome};
-ghost use Rattle.limits.specs.Entries.{entry_of, seen_entry, unitless as unitless_of, words_behind};
+ghost use Rattle.std.specs.Prelude.{◌≡◌, ◌<◌};
 
 use crate::names::place_of;
-use crate::words::{count_words, word_at};
+use crate::words::{count_words, word_at, words_behind};
 use sources::fault::Fault;
 use sources::pieces::{past, trimmed};
 use sources::reason::Reason;
@@ -13,27 +12,15 @@ pub struct Setting<'a> {
     pub place: usize,
     pub soft: &'a str,
     pub hard: &'a str,
-}
-
-// Two limits have no unit.
-fn unitless(text: &str) -> bool
-    ensures { result ≡ unitless_of text.now }
-{
-    past(text, "Max nice priority").is_some() || past(text, "Max realtime priority").is_some()
-}
-
-// How many words stand behind the name.
-fn words_behind(text: &str) -> usize
-    ensures { result ≡ words_behind text.now }
-{
-    if unitless(text) { 2 } else { 3 }
+    ghost in_range: { place < 16 },
 }
 
 impl<'a> Setting<'a> {
+    ghost use Rattle.limits.specs.Entries.{entry_of, seen_entry};
+
     // What the line says, if it names a limit.
     pub fn from_line(line: &'a str) -> Result<Option<Setting<'a>>, Fault>
-        ensures entry { seen_entry result ≡ entry_of line.now }
-        ensures bound { IfOk result (λ o. IfSome o (λ s. s.place < 16)) }
+        ensures { seen_entry result ≡ entry_of line.now }
     {
         let text = trimmed(line);
         if past(text, "Limit").is_some() {

@@ -1,6 +1,9 @@
 ghost use Rattle.std.specs.Prelude.{◌≡◌, length, take};
 ghost use Rattle.sources.specs.White.{white_words};
+ghost use Rattle.limits.specs.Entries.{unitless as unitless_of, words_behind};
 ghost use Rattle.limits.specs.Words.{same_words, word_at};
+
+use sources::pieces::past;
 
 // How many words a text has.
 pub fn count_words(text: &str) -> usize
@@ -21,4 +24,18 @@ pub fn same_words(text: &str, n: usize, name: &str) -> bool
     ensures { result ≡ same_words (take n (white_words text.now)) (white_words name.now) }
 {
     text.split_whitespace().take(n).eq(name.split_whitespace())
+}
+
+// Two limits have no unit.
+fn unitless(text: &str) -> bool
+    ensures { result ≡ unitless_of text.now }
+{
+    past(text, "Max nice priority").is_some() || past(text, "Max realtime priority").is_some()
+}
+
+// How many words stand behind the name.
+pub fn words_behind(text: &str) -> usize
+    ensures { result ≡ words_behind text.now }
+{
+    if unitless(text) { 2 } else { 3 }
 }

@@ -76,7 +76,7 @@ fn difference(heap: Global, read: Reading, line: &str) -> anyhow::Result<Option<
     Ok(Some(answer))
 }
 
-// Prints each line of a list that is not answered as it expects, with its answer, and then how many there are.
+// Prints each line of a list that is not answered as it expects, with its answer, and then how many texts there are and how many differ.
 fn replay(rt: &(impl Files + Print + AllocGlobal), read: Reading, name: &str) -> anyhow::Result<()>
     requires { IsAlwaysCallable read }
 {

@@ -54,7 +54,7 @@ fn items<T: Copy, const N: usize>(list: &Option<Counted<T, N>>) -> Option<&[T]> 
     list.as_ref().map(Counted::items)
 }
 
-// A list in brackets, with commas between its items as `shown` has them, or `-` where there is none.
+// A space, and a list in brackets, with commas between its items as `shown` has them, or `-` where there is none.
 fn put_list<W: fmt::Write, T, D: Display + Drop, F: Fn(&T) -> D>(
     f: &mut Formatter<W>,
     list: Option<&[T]>,

@@ -13,7 +13,7 @@ fn digit(b: u8) -> u8
     }
 }
 
-// The bytes that a text of a list stands for.
+// The bytes that a text of a list stands for. A loop over patterns: an escape takes two bytes or four.
 pub fn unescaped(heap: Global, escaped: &[u8]) -> Result<Vec<u8>, AllocError> {
     let mut out = Vec::new(heap);
     let mut rest = escaped;

@@ -16,7 +16,7 @@ pub struct Fault {
     pub field: u8,
 }
 
-// A fault with the number of its line, or 0.
+// A fault with the number of its line, or 0. It is flat, and 0 stands for none, since its figures are told side by side.
 #[derive(Clone, Copy, PartialEq, Eq, Debug)]
 pub struct Refusal {
     pub reason: Reason,

@@ -1,7 +1,7 @@
 ghost use Rattle.std.specs.Prelude.{◌≡◌, MatchOption, true, false};
 ghost use Rattle.sources.specs.Records.{recorded, records_of, formed as formed_of, going as going_of, last as «last_of»};
 
-// One record of a recording.
+// One record of a recording. Its marks are read where they stand, as the bytes that the format has.
 pub type Record = [u8; 64];
 
 // Whether a record has at most 62 text bytes, and zeros behind them.

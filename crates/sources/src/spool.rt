@@ -33,7 +33,7 @@ impl<'a> Spool<'a> {
         Ok(Spool { records, used: 0 })
     }
 
-    // Goes to the record that has the next byte, if there is one.
+    // Goes to the record that has the next byte, if there is one. The last record stays, for the ending that it tells.
     fn settle(&mut self) -> Option<&'a Record>
         ensures same { to_come self.new.records.now self.new.used ≡ to_come self.old.records.now self.old.used }
         ensures keeps { ending_of self.new.records.now ≡ ending_of self.old.records.now }

@@ -3,15 +3,15 @@ use Rattle.std.specs.Prelude.{List, Ok, Result}
 use Rattle.sources.specs.declared.fault.Fault.{Fault}
 use Rattle.sources.specs.Faults.{and_then}
 use Rattle.fields.specs.Slots.{Entry, last_of, needed, at_field}
-use Rattle.fields.specs.Values.{four_of}
+use Rattle.status.specs.Whole.{whole_four}
 use Rattle.status.specs.declared.owner.OwnerSlots.{OwnerSlots}
 use Rattle.status.specs.declared.record.Status.{Status}
 
 -- After entries, with the last first: each slot by how its value is read and by the number of its field.
 abbrev pub fill_owner : List Entry → OwnerSlots → OwnerSlots
 fill_owner es s = record {
-  uid = last_of four_of 9 es s.uid;
-  gid = last_of four_of 13 es s.gid;
+  uid = last_of whole_four 9 es s.uid;
+  gid = last_of whole_four 13 es s.gid;
 }
 
 -- The record so far with these fields, judged in order.

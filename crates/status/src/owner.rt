@@ -20,13 +20,13 @@ impl OwnerSlots {
         ensures { self.new ≡ fill_owner ((number, text.now) ∷ []) self.old }
     {
         match number {
-            9 => self.uid = Some(read_four(text)),
-            13 => self.gid = Some(read_four(text)),
+            9 => self.uid = Some(Ok(read_four(text))),
+            13 => self.gid = Some(Ok(read_four(text))),
             _ => {}
         }
     }
 
-    // Sets these fields of the record, or answers what is wrong with the first that is not as it must be.
+    // Sets these fields of the record (twice four lines, so that each says its number), or answers what is wrong with the first that is not as it must be.
     pub(crate) fn judge(&self, status: &mut Status) -> Result<(), Fault>
         ensures { result_and result (Ok status.new) ≡ judged_owner self.now status.old }
     {

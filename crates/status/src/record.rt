@@ -98,7 +98,8 @@ impl StatusSlots {
         StatusSlots::default()
     }
 
-    // After a line that sets the field `number`. Each topic matches it against its own: slots of many types stand in no table of functions.
+    // After a line that sets the field `number`. Each topic matches it against its own: slots of many types stand in no table of functions,
+    // and a struct of number and text would put its name before the text in every arm.
     fn next(&mut self, number: u8, text: &str)
         ensures { self.new ≡ fill_slots ((number, text.now) ∷ []) self.old }
     {
@@ -142,7 +143,7 @@ impl Status {
     // What a record holds after a refusal: zeros, nothing where a field may be missing, and empty texts and lists.
     pub fn blank() -> Status
         ensures blank { result ≡ blank_status }
-    ensures start { SetsEveryField }
+        ensures start { SetsEveryField }
     {
         Status::default()
     }
