@@ -9,7 +9,7 @@ use sources::number::{FromStrRadix, Radix};
 use sources::pieces::{cut, up_to};
 use std::marker::PhantomData;
 
-// What an item of a list means: a value, or a fault, for each piece of text.
+// What an item of a list means: a value, or a fault, for each piece of text. A type and no closure, so that contracts name its meaning.
 pub trait Item {
     type Value: Copy + Default;
 

@@ -46,7 +46,7 @@ impl FromStr for LimitValue {
 }
 
 impl Limit {
-    // The soft limit is judged first.
+    // The soft limit is judged first. Of two texts, and so no `From`.
     pub fn from_pair(soft: &str, hard: &str) -> Result<Limit, Fault>
         ensures { result ≡ limit_of soft.now hard.now }
     {

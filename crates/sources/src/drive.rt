@@ -75,6 +75,7 @@ fn lines<S: Source, K: Kind>(source: &mut S, kind: &mut K) -> Result<u32, Refusa
     ensures course { (result, K.means kind.new, S.text source.new) ≡ course K.rules (K.means kind.old) (S.text source.old) }
     ensures frame { K.frame kind.old kind.new }
 {
+    // an array, since the libraries allocate nothing
     let mut buf = [0u8; MAX_LINE];
     let mut taken: u32 = 0;
     let mut size: usize = 0;

@@ -16,6 +16,7 @@ pub enum Piece {
 pub trait Source {
     ghost text: { Self → Text };
 
+    // Each source tests for an empty buffer itself, since a second method for that would be one more that callers choose from.
     // Moves bytes to the front of `buf`: as many as it has room for, as are left, and as stand through the next byte 10.
     fn piece(&mut self, buf: &mut [u8]) -> Piece
         ensures { Given buf.old (text self.old) result buf.new (text self.new) };

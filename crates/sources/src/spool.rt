@@ -84,6 +84,7 @@ impl<'a> Source for Spool<'a> {
         if buf.len() == 0 {
             return Piece::Bytes(0);
         }
+        // Each part goes into the rest of one buffer, which no iterator could lend.
         let mut n = 0;
         while let Some(k) = self.part(&mut buf[n..]) {
             n += k;

@@ -18,6 +18,7 @@ pub enum ProcState {
 }
 
 impl ProcState {
+    // By its letter, which is matched here by a rule of the project.
     pub fn from_char(c: char) -> Option<ProcState>
         ensures { result ≡ state_of c }
     {
