@@ -98,12 +98,6 @@ pub judged-kind : {M C : Type 0} (room most : ℕ) (R : Rules M C) (broken : Boo
 unfolding judged
 judged-kind {M} {C} room most R broken taken size m l left go e f t u = rw (e, f, t, u)
 
-pub is_long : {room : ℕ} {xs : List ℕ} {n : ℕ} {buf : List ℕ} → Seen room xs n buf → n ≡ room → (get_or buf (n - 1) 0 ≡ 10 → ⊥) → long room (take (through xs) xs) ≡ true
-is_long {room} {xs} {n} {buf} s k b =
-    ap (λ (p : List ℕ). full room p) (piece_is s)
-    ∙ ap (λ (t : Bool). cond t (not (ended (take n xs))) false) (eq-eqb (length (take n xs)) room (fits s ∙ k))
-    ∙ ap not (ne_eqb (get_or (take n xs) (length (take n xs) - 1) 0) 10 (λ e. b (sym (last-is s) ∙ ap (λ (i : ℕ). get_or (take n xs) (i - 1) 0) (sym (fits s)) ∙ e)))
-
 pub ended_is : {room : ℕ} {xs : List ℕ} {n : ℕ} {buf : List ℕ} → Seen room xs n buf → ended (take n xs) ≡ eqb (get_or buf (n - 1) 0) 10
 ended_is {room} {xs} {n} {buf} s = ap (λ (i : ℕ). eqb (get_or (take n xs) (i - 1) 0) 10) (fits s) ∙ ap (λ (b : ℕ). eqb b 10) (last-is s)
 

@@ -1,6 +1,7 @@
-use Rattle.std.proofs.Common.{◌≡◌, ℕ, ◌/◌, ◌%◌, Bool, true, false, ◌&&◌, eqb, List, [], ◌∷◌, ◌++◌, length, sym, refl, ap, ◌∙◌, arith, rules, tests}
+use Rattle.std.proofs.Common.{◌≡◌, ℕ, ◌/◌, ◌%◌, Bool, false, ◌&&◌, eqb, List, [], ◌∷◌, ◌++◌, length, sym, ap, ◌∙◌, arith, rules, tests}
 use Rattle.std.proofs.lemmas.Iterator.{YieldsList-from_slice}
 use Rattle.std.proofs.lemmas.Iterator.Search.{all_from_yields_List}
+use Rattle.std.proofs.Math.Bool.{and-false}
 use Rattle.std.specs.List.{list_all}
 use Rattle.std.specs.Simd.{first_chunks}
 use Rattle.sources.specs.Records.{going, last, records_of, recorded, well_made}
@@ -11,11 +12,7 @@ use Rattle.sources.proofs.recording.records_in.Goals as goal
 -- bytes without a record
 none_in : (bytes : List ℕ) → length bytes / 64 ≡ 0 → recorded bytes ≡ false
 unfolding records_of
-none_in bytes h = ap (λ (k : ℕ). (eqb (length bytes % 64) 0) && well_made (first_chunks 64 k bytes)) h ∙ and_false (eqb (length bytes % 64) 0)
-  where
-    and_false : (b : Bool) → b && false ≡ false
-    and_false true = refl
-    and_false false = refl
+none_in bytes h = ap (λ (k : ℕ). (eqb (length bytes % 64) 0) && well_made (first_chunks 64 k bytes)) h ∙ and-false (eqb (length bytes % 64) 0)
 
 -- whether bytes are a recording, told by what is behind their records and by these
 recorded_by : (bytes : List ℕ) (rs : List (List ℕ)) (r : List ℕ) (n : ℕ) → first_chunks 64 (length bytes / 64) bytes ≡ rs ++ (r ∷ []) → n ≡ length bytes % 64 → recorded bytes ≡ eqb n 0 && (list_all going rs && last r)
