@@ -1,6 +1,6 @@
 -- What one turn of the driver's loop reads, and what the definition says of it.
 use Rattle.std.proofs.Common.{◌≡◌, ℕ, ◌+◌, ◌-◌, ◌<◌, min, Bool, true, false, cond, not, eqb, ltb, List, [], ◌∷◌, ◌++◌, length, get_or, take, drop, Err, IsUtf8, sym, refl, ap, ◌∙◌, inl, inr, arith, eq-eqb, ne_eqb}
-use Rattle.std.proofs.lemmas.List.{length-take, length-take-le, take-take, take_all, get_or-take, drop_all, take_at}
+use Rattle.std.proofs.lemmas.List.{length-take-le, take_all, get_or-take, drop_all, take_at}
 use Rattle.std.proofs.lemmas.Bool.{cases_lt, cases_eq, cases_Bool}
 use Rattle.sources.specs.declared.reason.Reason.TheVariants as reason
 use Rattle.sources.specs.Utf8.{is_utf8}
@@ -35,14 +35,6 @@ last-is {room} {xs} {n} {buf} s =
 
 pub fits : {room : ℕ} {xs : List ℕ} {n : ℕ} {buf : List ℕ} → Seen room xs n buf → length (take n xs) ≡ n
 fits {room} {xs} {n} {buf} s = let h = through-≤ xs in length-take-le n xs (omega (arith, s.is))
-
--- the first piece of the line is the piece
-pub piece_is : {room : ℕ} {xs : List ℕ} {n : ℕ} {buf : List ℕ} → Seen room xs n buf → take room (take (through xs) xs) ≡ take n xs
-piece_is {room} {xs} {n} {buf} s =
-    elim (cases_lt room (through xs)) [
-      | inl h ↦ let k : n ≡ room = omega (arith, s.is) in take-take room (through xs) xs (omega arith) ∙ ap (λ (i : ℕ). take i xs) (sym k)
-      | inr h ↦ let k : n ≡ through xs = omega (arith, s.is) in take_all room (take (through xs) xs) (simp length-take (omega arith)) ∙ ap (λ (i : ℕ). take i xs) (sym k)
-    ]
 
 -- a piece that is not refused is a line
 pub whole : {room : ℕ} {xs : List ℕ} {n : ℕ} {buf : List ℕ} → Seen room xs n buf → (n ≡ room → get_or buf (n - 1) 0 ≡ 10) → n ≡ through xs
