@@ -1,7 +1,7 @@
 -- The course over the lines of a text, by a kind that fills slots, comes to what its last lines make.
 use Rattle.std.proofs.Common.{◌≡◌, ℕ, ◌+◌, ◌<◌, ◌≤◌, Bool, true, false, cond, ltb, List, [], ◌∷◌, length, Some, None, Ok, Err, Option, Result, sym, refl, ap, ◌∙◌, inl, inr, arith}
 use Rattle.std.proofs.lemmas.Bool.{cases_Bool, ltb-true, ltb-false}
-use Rattle.sources.proofs.Newer.{text_cons}
+use Rattle.sources.proofs.Newer.{text_cons, text_over}
 use Rattle.sources.specs.declared.fault.Fault.{Fault}
 use Rattle.sources.specs.declared.fault.Refusal.{Refusal}
 use Rattle.sources.specs.declared.kind.Break.{Break}
@@ -17,10 +17,6 @@ use Rattle.fields.specs.Slots.{entered, after_entry}
 use Rattle.std.specs.Result.{result_err}
 use Rattle.fields.specs.Slotted.{slot_rules}
 use Rattle.fields.specs.LastLines.{breaks, before, through, breaks_off, good, sound, Orderly, put, entries_of, last_lines}
-
-text_over : length (text_of []) ≡ 0
-unfolding text_of
-text_over = refl
 
 -- what a line brings: a refusal of its length, or of the text's; a break; or what the kind makes of it
 data Brought {M C : Type 0} (room most : ℕ) (R : Rules M C) (broken : Bool) (k s : ℕ) (m : M) (l left : List ℕ) (go : Outcome M) : Type 0 where

@@ -1,7 +1,7 @@
 -- Which texts are measured, and as what.
 use Rattle.std.proofs.Common.{◌≡◌, ℕ, ◌+◌, ◌≤◌, Bool, true, false, List, [], ◌∷◌, length, None, Ok, Err, Result, sym, refl, ap, ◌∙◌, arith}
 use Rattle.std.proofs.lemmas.Bool.{and_parts, not-true}
-use Rattle.sources.proofs.Newer.{text_cons}
+use Rattle.sources.proofs.Newer.{text_cons, text_over}
 use Rattle.sources.specs.declared.fault.Fault.{Fault}
 use Rattle.sources.specs.declared.kind.Break.TheVariants.{Refuses}
 use Rattle.sources.specs.Texts.{Text}
@@ -22,10 +22,6 @@ use Rattle.kinds.specs.Measure.{none, first, closed_with, next, fault_of, rules_
 use Rattle.kinds.specs.Sums.{opens, sound, mappings_of, sum_over, total, figure, orderly, closed_of, Measured, Measures}
 use Rattle.sources.proofs.Walks.{ends, judged-ok, judged-on}
 use Rattle.kinds.proofs.Steps.{rest, plus, total-opens, count_opens, rest_over, count_over, figure-none, sum_some, sum_fits, Stepped, step_sound, step_fine, some_byte}
-
-text_over : length (text_of []) ≡ 0
-unfolding text_of
-text_over = refl
 
 total-over : (k : Key) → total k [] ≡ 0
 unfolding mappings_of sum_over

@@ -1,4 +1,4 @@
-use Rattle.std.proofs.Common.{◌≡◌, ℕ, zero, suc, ◌<◌, false, eqb, List, [], ◌∷◌, ◌++◌, length, get_or, take, drop, Some, None, Option, sym, refl, arith, Bor, eq-eqb, ne_eqb}
+use Rattle.std.proofs.Common.{◌≡◌, ℕ, suc, ◌<◌, false, eqb, List, [], ◌∷◌, ◌++◌, length, get_or, Some, None, Option, sym, refl, arith, Bor, eq-eqb, ne_eqb}
 use Rattle.std.specs.Option.{option_map}
 use Rattle.std.proofs.lemmas.Str.Pattern.{IsSplitOnceResult, split_parts}
 use Rattle.sources.specs.Pieces.{cut, bytes_of_2}
@@ -24,9 +24,3 @@ cut-some c (x ∷ xs) ys h = rw (lacks_head c x xs h, cut-some c xs ys (lacks_ta
 pub split_is_cut : (c : ℕ) (bs : List ℕ) (r : Option (Bor (List ℕ) × Bor (List ℕ))) → IsSplitOnceResult c bs r → c < 128 → option_map bytes_of_2 r ≡ cut c bs
 split_is_cut c bs None h lt = sym (cut-none c bs (split_parts c bs None h lt))
 split_is_cut c bs (Some p) h lt = let e = split_parts c bs (Some p) h lt in rw e.0 (sym (cut-some c p.0.now p.1.now e.1))
-
-pub cut-at_index : (c : ℕ) (bs : List ℕ) (i : ℕ) → i < length bs → ((k : ℕ) → k < i → get_or bs k 0 ≡ c → ⊥) → get_or bs i 0 ≡ c → cut c bs ≡ Some (take i bs, drop (suc i) bs)
-cut-at_index c [] i l h e = absurd (omega arith)
-cut-at_index c (x ∷ xs) zero l h e = rw (eq-eqb x c e)
-cut-at_index c (x ∷ xs) (suc i) l h e =
-    rw (ne_eqb x c (h 0 (omega arith)), cut-at_index c xs i (omega arith) (λ k lt. h (suc k) (omega arith)) e)

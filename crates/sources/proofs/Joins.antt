@@ -1,8 +1,8 @@
 -- A join of two sources answers as one.
-use Rattle.std.proofs.Common.{◌≡◌, ℕ, suc, ◌+◌, ◌-◌, ◌<◌, ◌≤◌, Bool, true, false, cond, eqb, ◌⊎◌, List, [], ◌∷◌, ◌++◌, length, get_or, take, drop, sym, refl, ap, ◌∙◌, subst, inl, inr, append_assoc, append-nil, arith, length-append, length-drop, ne_eqb, eqb-true}
-use borrow.Author.Tests.{eqb-false}
-use Rattle.std.proofs.lemmas.List.{drop-append-le, take-append-le, get_or-take, drop_all, take_rest, take_at, drop_at, take_all, take-append-drop, drop-drop}
-use Rattle.std.proofs.lemmas.Bool.{cases_Bool, cases_lt}
+use Rattle.std.proofs.Common.{◌≡◌, ℕ, suc, ◌+◌, ◌-◌, ◌<◌, Bool, true, false, cond, eqb, ◌⊎◌, List, [], ◌∷◌, ◌++◌, length, get_or, take, drop, sym, refl, ap, ◌∙◌, subst, inl, inr, append_assoc, arith, length-append, length-drop, ne_eqb, eqb-true}
+use Rattle.std.proofs.Math.Seq.{take-append-add}
+use Rattle.std.proofs.lemmas.List.{drop-append-le, take-append-le, get_or-take, take_rest, take_at, drop_at, take_all, take-append-drop, drop-drop}
+use Rattle.std.proofs.lemmas.Bool.{cases_Bool, cases_lt, eqb-false}
 use Rattle.sources.specs.Bytes.{through, moved}
 use Rattle.sources.specs.Given.{Given, answer}
 use Rattle.sources.specs.Texts.{text, joined}
@@ -10,6 +10,7 @@ use Rattle.sources.specs.declared.source.Piece.{Piece}
 use Rattle.sources.specs.declared.source.Piece.TheVariants.{Bytes, Ended}
 use Rattle.sources.proofs.Through.{through-≤, through-some}
 use Rattle.sources.proofs.Answered.{given_bytes}
+use Rattle.sources.proofs.Parts.{put_rest}
 use Rattle.sources.proofs.Steps.{seen, one, last-is, left_is, whole}
 use Rattle.sources.proofs.Next.{none_after, through-open}
 use borrow.Rule.Slice.PartMut.{put_mid}
@@ -71,19 +72,11 @@ join_first buf a false k buf' a' ta' b tb h g w =
     subst (λ (t : Bool). Given buf (text (a ++ b) tb) (Bytes k) buf' (joined (text a' t) (text b tb))) (sym g.keeps)
     (given_bytes buf (a ++ b) tb k buf' (a' ++ b) (simp length-append (omega (arith, s.some))) q f d)
 
-pub put-tail : (k : ℕ) (X ys : List ℕ) → k ≤ length X → put_mid k (length X - k) X ys ≡ take k X ++ ys
-put-tail k X ys h =
-    ap (λ (p : List ℕ). take k X ++ (ys ++ p)) (drop_all (length X - k) (drop k X) (simp length-drop (omega arith))) ∙ ap (λ (p : List ℕ). take k X ++ p) (append-nil ys)
-
 idle : (buf xs : List ℕ) (t : Bool) (r : Piece) (buf' xs' : List ℕ) (t' : Bool) → Given buf (text xs t) r buf' (text xs' t') → xs ≡ [] → (buf' ≡ buf) × (xs' ≡ [])
 idle buf [] t r buf' xs' t' g e =
     let m : moved (length buf) [] ≡ 0 = omega arith in
     (g.fills ∙ ap (λ (n : ℕ). take n [] ++ drop n buf) m, g.moves ∙ ap (λ (n : ℕ). drop n []) m)
 idle buf (x ∷ xs) t r buf' xs' t' g e = let z : ◌≡◌ {A = ℕ} (length (x ∷ xs)) 0 = ap length e in absurd (omega arith)
-
-take_past : (a b : List ℕ) (m : ℕ) → take (length a + m) (a ++ b) ≡ a ++ take m b
-take_past [] b m = let q : 0 + m ≡ m = omega arith in ap (λ (i : ℕ). take i b) q
-take_past (x ∷ a) b m = let q : suc (length a) + m ≡ suc (length a + m) = omega arith in ap (λ (i : ℕ). take i (x ∷ (a ++ b))) q ∙ ap (λ (l : List ℕ). x ∷ l) (take_past a b m)
 
 -- the first gave all that it had, without a byte 10, and was called again
 pub record Spent (buf a : List ℕ) (k : ℕ) (X Y a2 : List ℕ) : Type 0 where
@@ -106,7 +99,7 @@ spent buf a ta k X a1 ta1 r buf2 a2 ta2 lX h g n w g2 =
     let e2 : r2 ≡ drop k X = take_rest X k in
     let s = seen buf a ta k X a1 ta1 h g in
     let o = one s in
-    let eY : Y ≡ take k X ++ buf2 = put-tail k X buf2 (omega (arith, s.is, lX)) in
+    let eY : Y ≡ take k X ++ buf2 = put_rest k X buf2 in
     let kt : k ≡ through a = whole s (λ q. absurd (w q)) in
     let la : get_or a (k - 1) 0 ≡ get_or X (k - 1) 0 = sym (get_or-take k a (k - 1) 0 (omega arith)) ∙ last-is s in
     let op : get_or a (through a - 1) 0 ≡ 10 → ⊥ = λ q. n (sym la ∙ ap (λ (i : ℕ). get_or a (i - 1) 0) kt ∙ q) in
@@ -139,14 +132,14 @@ join_more buf a ta ta2 k X Y a2 b tb m buf3 b' tb' s t t2 g3 =
     let r3 : List ℕ = take (length Y - k) (drop k Y) in
     let Z : List ℕ = put_mid k (length Y - k) Y buf3 in
     let e3 : r3 ≡ drop k Y = take_rest Y k in
-    let eZ : Z ≡ take k Y ++ buf3 = put-tail k Y buf3 (omega (arith, s.long, s.less)) in
+    let eZ : Z ≡ take k Y ++ buf3 = put_rest k Y buf3 in
     let ka = s.all in
     let dX : r3 ≡ drop k buf = e3 ∙ s.back in
     let l3 : length r3 ≡ length buf - k = ap length dX ∙ length-drop k buf in
     let s3 = seen r3 b tb m buf3 b' tb' (omega (arith, s.less)) g3 in
     let q : k + m ≡ moved (length buf) (a ++ b) = omega (arith, s3.is, l3, past a b s.bare) in
     let f3 : buf3 ≡ take m b ++ drop m (drop k buf) = g3.fills ∙ ap (λ (i : ℕ). take i b ++ drop i r3) (sym s3.is) ∙ ap (λ (l : List ℕ). take m b ++ drop m l) dX in
-    let tk : take (k + m) (a ++ b) ≡ a ++ take m b = ap (λ (i : ℕ). take (i + m) (a ++ b)) ka ∙ take_past a b m in
+    let tk : take (k + m) (a ++ b) ≡ a ++ take m b = ap (λ (i : ℕ). take (i + m) (a ++ b)) ka ∙ take-append-add a b m in
     let f : Z ≡ take (k + m) (a ++ b) ++ drop (k + m) buf = eZ ∙ ap (λ (l : List ℕ). l ++ buf3) s.front ∙ ap (λ (l : List ℕ). a ++ l) f3 ∙ ap (λ (l : List ℕ). a ++ (take m b ++ l)) (drop-drop m k buf)
     ∙ sym (append_assoc a (take m b) (drop (k + m) buf)) ∙ ap (λ (l : List ℕ). l ++ drop (k + m) buf) (sym tk) in
     let d : b' ≡ drop (k + m) (a ++ b) = left_is r3 b tb m buf3 b' tb' (omega (arith, s.less)) g3 ∙ ap (λ (l : List ℕ). drop m l) (sym (drop_at a b k (sym ka))) ∙ drop-drop m k (a ++ b) in
@@ -165,7 +158,7 @@ join-none buf a ta ta2 k X Y a2 b tb r buf3 b' tb' s t t2 g3 n =
     let r3 : List ℕ = take (length Y - k) (drop k Y) in
     let Z : List ℕ = put_mid k (length Y - k) Y buf3 in
     let e3 : r3 ≡ drop k Y = take_rest Y k in
-    let eZ : Z ≡ take k Y ++ buf3 = put-tail k Y buf3 (omega (arith, s.long, s.less)) in
+    let eZ : Z ≡ take k Y ++ buf3 = put_rest k Y buf3 in
     let ka = s.all in
     let bn = no_bytes (length r3) b tb r g3.answers n in
     let id = idle r3 b tb r buf3 b' tb' g3 bn in

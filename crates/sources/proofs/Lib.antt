@@ -14,7 +14,6 @@ pub mod Parts
 pub mod Reading
 pub mod Cuts
 pub mod Ends
-pub mod Same
 pub mod Worded
 pub mod Trims
 pub mod Spaced

@@ -1,21 +1,10 @@
 -- What the definitions say of the first record, of those behind it, and of the last.
-use Rattle.std.proofs.Common.{◌≡◌, ℕ, ◌+◌, ◌-◌, ◌≤◌, min, Bool, true, false, ◌&&◌, eqb, List, [], ◌∷◌, ◌++◌, length, get_or, take, drop, sym, refl, ap, ◌∙◌, inl, inr, arith, length-drop}
+use Rattle.std.proofs.Common.{◌≡◌, ℕ, ◌+◌, ◌-◌, ◌≤◌, min, Bool, ◌&&◌, eqb, List, [], ◌∷◌, ◌++◌, length, get_or, take, drop, sym, refl, ap, ◌∙◌, inl, inr, arith, length-drop}
 use Rattle.std.proofs.lemmas.List.{take_all, drop-take, drop-drop}
 use Rattle.std.proofs.lemmas.Bool.{cases_lt}
+use Rattle.std.proofs.Math.Bool.{and-true, and_assoc}
 use Rattle.std.specs.List.{list_all}
 use Rattle.sources.specs.Records.{text_of_record, text_of_records, to_come, well_made, going, last, ending_of}
-
-and_true : (a b : Bool) → a && b ≡ (a && true) && b
-and_true true b = refl
-and_true false b = refl
-
-and_assoc : (a b c : Bool) → a && (b && c) ≡ (a && b) && c
-and_assoc true b c = refl
-and_assoc false b c = refl
-
-pub to_come-start : (rs : List (List ℕ)) → to_come rs 0 ≡ text_of_records rs
-to_come-start [] = refl
-to_come-start (r ∷ rs) = refl
 
 take_min : (a b : ℕ) (l : List ℕ) → length l ≤ b → take a l ≡ take (min a b) l
 take_min a b l k = elim (cases_lt a b) [
@@ -34,8 +23,8 @@ text_from r u m l h e =
 -- Records of which all but the last are followed by others.
 pub well_made_end : (rs : List (List ℕ)) (r : List ℕ) → well_made (rs ++ (r ∷ [])) ≡ list_all going rs && last r
 well_made_end [] r = refl
-well_made_end (s ∷ []) r = and_true (going s) (last r)
-well_made_end (s ∷ t ∷ rs) r = ap (λ (b : Bool). going s && b) (well_made_end (t ∷ rs) r) ∙ and_assoc (going s) (list_all going (t ∷ rs)) (last r)
+well_made_end (s ∷ []) r = ap (λ (b : Bool). b && last r) (sym (and-true (going s)))
+well_made_end (s ∷ t ∷ rs) r = ap (λ (b : Bool). going s && b) (well_made_end (t ∷ rs) r) ∙ sym (and_assoc (going s) (list_all going (t ∷ rs)) (last r))
 
 -- The ending is told by the last record.
 pub ending-end : (rs : List (List ℕ)) (r : List ℕ) → ending_of (rs ++ (r ∷ [])) ≡ eqb (get_or r 1 0) 2

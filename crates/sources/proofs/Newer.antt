@@ -1,5 +1,5 @@
 -- A newer edition of a text reads the same.
-use Rattle.std.proofs.Common.{◌≡◌, ℕ, ◌+◌, ◌≤◌, Bool, true, false, cond, not, eqb, ltb, List, ◌∷◌, length, Some, None, Ok, Err, Option, Result, sym, refl, ap, ◌∙◌, subst, inl, inr, arith, length-append, le-ltb}
+use Rattle.std.proofs.Common.{◌≡◌, ℕ, ◌+◌, ◌≤◌, Bool, true, false, cond, not, eqb, ltb, List, [], ◌∷◌, length, Some, None, Ok, Err, Option, Result, sym, refl, ap, ◌∙◌, subst, inl, inr, arith, length-append, le-ltb}
 use Rattle.std.proofs.lemmas.List.{take_all}
 use Rattle.std.proofs.lemmas.Bool.{cases_Bool}
 use Rattle.sources.specs.declared.fault.Fault.{Fault}
@@ -67,6 +67,10 @@ not_long room l h e = ap (λ (p : List ℕ). full room p) (take_all room l h) �
 stands : (broken : Bool) (l : List ℕ) → ended l ≡ true → lost broken l ≡ false
 stands true l e = ap not e
 stands false l e = refl
+
+pub text_over : length (text_of []) ≡ 0
+unfolding text_of
+text_over = refl
 
 pub text_cons : (l : List ℕ) (ls : List (List ℕ)) → length (text_of (l ∷ ls)) ≡ length l + length (text_of ls)
 unfolding text_of

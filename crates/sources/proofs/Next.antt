@@ -10,9 +10,9 @@ use Rattle.sources.specs.Given.{Given, answer, ending}
 use Rattle.sources.specs.Came.{Lined, Comes}
 use Rattle.sources.specs.declared.source.Piece.{Piece}
 use Rattle.sources.specs.declared.source.Piece.TheVariants as piece
-use Rattle.sources.specs.declared.drive.Next.TheVariants.{Line, Lost, Long}
+use Rattle.sources.specs.declared.drive.Next.TheVariants.{Line, Lost}
 use Rattle.sources.proofs.Through.{through-some}
-use Rattle.sources.proofs.Steps.{one, last-is, whole, fits, seen, left_is, is_long, not_long, ended_is, stands, broken_left}
+use Rattle.sources.proofs.Steps.{one, last-is, whole, fits, seen, left_is, not_long, ended_is, stands, broken_left}
 
 -- a line without a byte 10 at its end is the rest of the text
 open_or : (xs : List ℕ) → (through xs ≡ length xs) ⊎ (get_or xs (through xs - 1) 0 ≡ 10)
@@ -43,12 +43,6 @@ pub came_line : {buf xs : List ℕ} {broken : Bool} {n : ℕ} {buf' xs' : List �
     get_or buf' (n - 1) 0 ≡ 10 → length buf' ≡ length buf → Comes (length buf) xs broken (Line n) buf' xs'
 came_line {buf} {xs} {broken} {n} {buf'} {xs'} {broken'} h g b w =
     (lined h g (λ _. b) w, stands broken (seen buf xs broken n buf' xs' broken' h g) (λ _. b))
-
-pub came_long : {buf xs : List ℕ} {broken : Bool} {n : ℕ} {buf' xs' : List ℕ} {broken' : Bool} → 0 < length buf → Given buf (text xs broken) (piece.Bytes n) buf' (text xs' broken') →
-    (get_or buf' (n - 1) 0 ≡ 10 → ⊥) → n ≡ length buf → Comes (length buf) xs broken Long buf' xs'
-came_long {buf} {xs} {broken} {n} {buf'} {xs'} {broken'} h g b w =
-    let s = seen buf xs broken n buf' xs' broken' h g in
-    (s.some, is_long s w b, left_is buf xs broken n buf' xs' broken' h g ∙ ap (λ (k : ℕ). drop k xs) w)
 
 -- the second call, after a line without a byte 10
 pub none_after : {buf xs : List ℕ} {broken : Bool} {n : ℕ} {buf' xs' : List ℕ} {broken' : Bool} → 0 < length buf → Given buf (text xs broken) (piece.Bytes n) buf' (text xs' broken') →

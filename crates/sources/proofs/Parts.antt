@@ -1,7 +1,8 @@
 -- Bytes of one record moved, and pieces made of several such parts.
-use Rattle.std.proofs.Common.{◌≡◌, ℕ, zero, suc, ◌+◌, ◌-◌, ◌<◌, ◌≤◌, Bool, true, false, cond, eqb, ◌⊎◌, List, [], ◌∷◌, ◌++◌, length, get_or, take, drop, sym, ap, ◌∙◌, subst, inl, inr, append_assoc, append-nil, zero-add, arith, length-append, length-drop, eq-eqb, ne_eqb}
+use Rattle.std.proofs.Common.{◌≡◌, ℕ, zero, suc, ◌+◌, ◌-◌, ◌<◌, ◌≤◌, Bool, true, false, cond, eqb, ◌⊎◌, List, [], ◌∷◌, ◌++◌, length, get_or, take, drop, sym, ap, ◌∙◌, subst, inl, inr, append_assoc, append-nil, arith, length-append, length-drop, eq-eqb, ne_eqb}
+use Rattle.std.proofs.Math.Seq.{take-add}
 use borrow.Rule.Slice.PartMut.{put_mid}
-use Rattle.std.proofs.lemmas.List.{drop_all, take_rest, length-take-le, take_all, take-append-le, drop-append-le, drop-take, drop-drop, get_or-take, take_at, drop_at}
+use Rattle.std.proofs.lemmas.List.{drop_all, take_rest, length-take-le, take-append-le, drop-append-le, drop-take, drop-drop, get_or-take, take_at, drop_at}
 use Rattle.std.proofs.lemmas.Bool.{cases_eq}
 use Rattle.sources.specs.Bytes.{through, moved}
 use Rattle.sources.specs.Texts.{text as told}
@@ -49,23 +50,13 @@ pub record Filled (buf text : List ℕ) (n : ℕ) (buf' text' : List ℕ) : Type
   pub fills : buf' ≡ take n text ++ drop n buf
   pub moves : text' ≡ drop n text
 
-take-plus : (n k : ℕ) (xs : List ℕ) → take (n + k) xs ≡ take n xs ++ take k (drop n xs)
-take-plus zero k xs = rw zero-add
-take-plus (suc n) k [] = ap (λ (j : ℕ). take j []) z ∙ sym (take_all k [] (omega arith))
-  where
-    z : suc n + k ≡ suc (n + k)
-    z = omega arith
-take-plus (suc n) k (x ∷ xs) = ap (λ (j : ℕ). take j (x ∷ xs)) z ∙ ap (λ (l : List ℕ). x ∷ l) (take-plus n k xs)
-  where
-    z : suc n + k ≡ suc (n + k)
-    z = omega arith
-
 pub front_is : {buf text : List ℕ} {n : ℕ} {buf' text' : List ℕ} → Filled buf text n buf' text' → (take n buf' ≡ take n text) × (drop n buf' ≡ drop n buf)
 front_is {buf} {text} {n} {buf'} {text'} f =
     let l : length (take n text) ≡ n = length-take-le n text f.fits in
     (ap (take n) f.fills ∙ take_at (take n text) (drop n buf) n l, ap (drop n) f.fills ∙ drop_at (take n text) (drop n buf) n l)
 
-put_rest : (n : ℕ) (xs ys : List ℕ) → put_mid n (length xs - n) xs ys ≡ take n xs ++ ys
+-- ys in the place of what is behind the first n of xs
+pub put_rest : (n : ℕ) (xs ys : List ℕ) → put_mid n (length xs - n) xs ys ≡ take n xs ++ ys
 put_rest n xs ys = ap (λ (l : List ℕ). take n xs ++ (ys ++ l)) (drop_all (length xs - n) (drop n xs) (simp length-drop (omega arith))) ∙ ap (λ (l : List ℕ). take n xs ++ l) (append-nil ys)
 
 pub more-moved : {buf text : List ℕ} {n : ℕ} {buf' text' : List ℕ} {k : ℕ} {r2 buf2 text'' : List ℕ} → Filled buf text n buf' text' → r2 ≡ take (length buf' - n) (drop n buf') → Part r2 text' k buf2 text'' →
@@ -76,7 +67,7 @@ more-moved {buf} {text} {n} {buf'} {text'} {k} {r2} {buf2} {text''} f e p =
     let q : put_mid n (length buf' - n) buf' buf2 ≡ take n buf' ++ buf2 = put_rest n buf' buf2 in
     let l : length r2 ≡ length buf - n = ap length r ∙ length-drop n buf in
     let t = through-≤ text in
-    let c : take (n + k) text ≡ take n text ++ take k (drop n text) = take-plus n k text in
+    let c : take (n + k) text ≡ take n text ++ take k (drop n text) = take-add n k text in
     record {
       some = omega (arith, p.some);
       within = omega (arith, f.short, p.within);

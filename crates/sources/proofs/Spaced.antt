@@ -1,5 +1,5 @@
 -- A step of `split_whitespace` takes the first of the defined words.
-use Rattle.std.proofs.Common.{◌≡◌, ℕ, ◌<◌, Bool, true, false, ◌&&◌, List, [], ◌∷◌, ◌++◌, map, length, drop, Some, None, IsUtf8, Option, sym, refl, ap, ◌∙◌, subst, append_assoc, arith, Bor}
+use Rattle.std.proofs.Common.{◌≡◌, ℕ, ◌<◌, true, List, [], ◌∷◌, ◌++◌, map, length, drop, Some, None, IsUtf8, Option, sym, refl, ap, ◌∙◌, subst, append_assoc, arith, Bor}
 use lib.Utf8.{encode, encodes, scalar, scalars}
 use Rattle.std.specs.Char.{is_whitespace, is_not_whitespace}
 use Rattle.std.specs.Str.{NonePass, NoCharPasses, EmptyOrStartsWithPassing, chars}
@@ -11,15 +11,15 @@ use Rattle.sources.specs.Pieces.{bytes_of}
 use Rattle.sources.specs.White.{join, char_words, white_words, nth}
 use Rattle.std.proofs.lemmas.Iterator.{YieldsList}
 use Rattle.std.proofs.lemmas.Iterator.Splits.{YieldsList-from_shown_while}
-use Rattle.sources.proofs.Trims.{is_white}
+use Rattle.std.proofs.lemmas.Bool.{not-false, and_parts}
 
 skip_gap : (gs cs : List ℕ) → NonePass is_not_whitespace gs → char_words (gs ++ cs) ≡ char_words cs
 skip_gap [] cs h = refl
-skip_gap (g ∷ gs) cs h = rw (is_white (is_whitespace g) h.0) (skip_gap gs cs h.1)
+skip_gap (g ∷ gs) cs h = rw (not-false (is_whitespace g) h.0) (skip_gap gs cs h.1)
 
 all_gap : (gs : List ℕ) → NonePass is_not_whitespace gs → char_words gs ≡ []
 all_gap [] h = refl
-all_gap (g ∷ gs) h = rw (is_white (is_whitespace g) h.0) (all_gap gs h.1)
+all_gap (g ∷ gs) h = rw (not-false (is_whitespace g) h.0) (all_gap gs h.1)
 
 -- no character, or a white one first
 abbrev Stops : List ℕ → Type 0
@@ -74,11 +74,7 @@ split_encodes (g ∷ gs) us rest e =
 
 scalars_back : (gs es : List ℕ) → scalars (gs ++ es) ≡ true → scalars es ≡ true
 scalars_back [] es h = h
-scalars_back (g ∷ gs) es h = scalars_back gs es (both (scalar g) _ h)
-  where
-    both : (p q : Bool) → (p && q) ≡ true → q ≡ true
-    both true q e = e
-    both false q e = cc
+scalars_back (g ∷ gs) es h = scalars_back gs es (and_parts (scalar g) _ h).1
 
 utf8_after : (s gs rest : List ℕ) → IsUtf8 s → s ≡ encodes gs ++ rest → IsUtf8 rest
 utf8_after s gs rest u e =

@@ -1,6 +1,6 @@
 -- What one turn of the driver's loop reads, and what the definition says of it.
 use Rattle.std.proofs.Common.{◌≡◌, ℕ, ◌+◌, ◌-◌, ◌<◌, min, Bool, true, false, cond, not, eqb, ltb, List, [], ◌∷◌, ◌++◌, length, get_or, take, drop, Err, IsUtf8, sym, refl, ap, ◌∙◌, inl, inr, arith, eq-eqb, ne_eqb}
-use Rattle.std.proofs.lemmas.List.{length-take, length-take-le, take-take, take_all, get_or-take, drop_all, take_at}
+use Rattle.std.proofs.lemmas.List.{length-take-le, take_all, get_or-take, drop_all, take_at}
 use Rattle.std.proofs.lemmas.Bool.{cases_lt, cases_eq, cases_Bool}
 use Rattle.sources.specs.declared.reason.Reason.TheVariants as reason
 use Rattle.sources.specs.Utf8.{is_utf8}
@@ -35,14 +35,6 @@ last-is {room} {xs} {n} {buf} s =
 
 pub fits : {room : ℕ} {xs : List ℕ} {n : ℕ} {buf : List ℕ} → Seen room xs n buf → length (take n xs) ≡ n
 fits {room} {xs} {n} {buf} s = let h = through-≤ xs in length-take-le n xs (omega (arith, s.is))
-
--- the first piece of the line is the piece
-pub piece_is : {room : ℕ} {xs : List ℕ} {n : ℕ} {buf : List ℕ} → Seen room xs n buf → take room (take (through xs) xs) ≡ take n xs
-piece_is {room} {xs} {n} {buf} s =
-    elim (cases_lt room (through xs)) [
-      | inl h ↦ let k : n ≡ room = omega (arith, s.is) in take-take room (through xs) xs (omega arith) ∙ ap (λ (i : ℕ). take i xs) (sym k)
-      | inr h ↦ let k : n ≡ through xs = omega (arith, s.is) in take_all room (take (through xs) xs) (simp length-take (omega arith)) ∙ ap (λ (i : ℕ). take i xs) (sym k)
-    ]
 
 -- a piece that is not refused is a line
 pub whole : {room : ℕ} {xs : List ℕ} {n : ℕ} {buf : List ℕ} → Seen room xs n buf → (n ≡ room → get_or buf (n - 1) 0 ≡ 10) → n ≡ through xs
@@ -97,12 +89,6 @@ pub judged-kind : {M C : Type 0} (room most : ℕ) (R : Rules M C) (broken : Boo
     judged room most R broken taken size m l left go ≡ on_fault (R.refused (R.next m l)) (taken + 1) (R.next m l) left go
 unfolding judged
 judged-kind {M} {C} room most R broken taken size m l left go e f t u = rw (e, f, t, u)
-
-pub is_long : {room : ℕ} {xs : List ℕ} {n : ℕ} {buf : List ℕ} → Seen room xs n buf → n ≡ room → (get_or buf (n - 1) 0 ≡ 10 → ⊥) → long room (take (through xs) xs) ≡ true
-is_long {room} {xs} {n} {buf} s k b =
-    ap (λ (p : List ℕ). full room p) (piece_is s)
-    ∙ ap (λ (t : Bool). cond t (not (ended (take n xs))) false) (eq-eqb (length (take n xs)) room (fits s ∙ k))
-    ∙ ap not (ne_eqb (get_or (take n xs) (length (take n xs) - 1) 0) 10 (λ e. b (sym (last-is s) ∙ ap (λ (i : ℕ). get_or (take n xs) (i - 1) 0) (sym (fits s)) ∙ e)))
 
 pub ended_is : {room : ℕ} {xs : List ℕ} {n : ℕ} {buf : List ℕ} → Seen room xs n buf → ended (take n xs) ≡ eqb (get_or buf (n - 1) 0) 10
 ended_is {room} {xs} {n} {buf} s = ap (λ (i : ℕ). eqb (get_or (take n xs) (i - 1) 0) 10) (fits s) ∙ ap (λ (b : ℕ). eqb b 10) (last-is s)

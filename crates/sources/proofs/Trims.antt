@@ -1,31 +1,24 @@
-use Rattle.std.proofs.Common.{◌≡◌, ℕ, ◌≤◌, Bool, true, false, not, List, [], ◌∷◌, ◌++◌, length, take, drop, IsUtf8, sym, refl, ap, ◌∙◌, subst, append_assoc, append-nil, arith}
+use Rattle.std.proofs.Common.{◌≡◌, ℕ, true, false, List, [], ◌∷◌, ◌++◌, length, take, drop, IsUtf8, sym, refl, ap, ◌∙◌, subst, append_assoc, append-nil, arith}
 use lib.Utf8.{encode, encodes, scalar}
 use Rattle.std.specs.Char.{is_whitespace, is_not_whitespace}
-use Rattle.std.specs.Str.{NonePass, NoCharPasses, EmptyOrStartsWithPassing, EmptyOrEndsWithPassing, chars}
+use Rattle.std.specs.Str.{NonePass, EmptyOrStartsWithPassing, EmptyOrEndsWithPassing, IsTrimStart, chars}
+use Rattle.std.proofs.lemmas.Bool.{not-true, not-false}
 use Rattle.std.proofs.lemmas.List.{take-append-drop, take_at}
 use Rattle.std.proofs.lemmas.Str.Pattern.{IsTrimResult}
 use Rattle.std.proofs.lemmas.Str.{encodes-append, encodes_same, encodes-chars, IsCharBoundary-at_seam, IsUtf8-take, IsUtf8-encode, chars-nil, chars_past_char}
 use Rattle.sources.specs.White.{trim_front, trim_back, keep, trim, trim_start}
 
-pub is_white : (b : Bool) → not b ≡ false → b ≡ true
-is_white true e = refl
-is_white false e = sym e
-
-pub is_dark : (b : Bool) → not b ≡ true → b ≡ false
-is_dark true e = sym e
-is_dark false e = refl
-
 front_white : (ws xs : List ℕ) → NonePass is_not_whitespace ws → trim_front (ws ++ xs) ≡ trim_front xs
 front_white [] xs h = refl
-front_white (w ∷ ws) xs h = rw (is_white (is_whitespace w) h.0) (front_white ws xs h.1)
+front_white (w ∷ ws) xs h = rw (not-false (is_whitespace w) h.0) (front_white ws xs h.1)
 
 all_white : (ws : List ℕ) → NonePass is_not_whitespace ws → trim_front ws ≡ []
 all_white [] h = refl
-all_white (w ∷ ws) h = rw (is_white (is_whitespace w) h.0) (all_white ws h.1)
+all_white (w ∷ ws) h = rw (not-false (is_whitespace w) h.0) (all_white ws h.1)
 
 back_white : (vs : List ℕ) → NonePass is_not_whitespace vs → trim_back vs ≡ []
 back_white [] h = refl
-back_white (v ∷ vs) h = rw (back_white vs h.1, is_white (is_whitespace v) h.0)
+back_white (v ∷ vs) h = rw (back_white vs h.1, not-false (is_whitespace v) h.0)
 
 keep-more : (f c : ℕ) (fs : List ℕ) → keep f (fs ++ (c ∷ [])) ≡ f ∷ (fs ++ (c ∷ []))
 keep-more f c [] = refl
@@ -71,8 +64,8 @@ at bs (x ∷ xs) ws vs ub ut hw hv e rest o s =
     let t = x ∷ xs in
     sym (ap (λ (x : List ℕ). encodes (trim_back (trim_front x))) (between bs t ws vs ub ut e)
     ∙ ap encodes (some ws (chars t) vs (chars rest) (chars last.1) first.0 last.0 hw hv
-    (chars_past_char t rest first.0 ut first.2) (is_dark _ first.1)
-    (last-char t last.1 last.0 ut last.4 last.3) (is_dark _ last.2))
+    (chars_past_char t rest first.0 ut first.2) (not-true _ first.1)
+    (last-char t last.1 last.0 ut last.4 last.3) (not-true _ last.2))
     ∙ encodes-chars t ut)
 
 pub trims_is : (bs t : List ℕ) → IsUtf8 bs → IsUtf8 t → IsTrimResult bs t → t ≡ trim bs
@@ -85,10 +78,6 @@ trims_is bs t ub ut h =
     sym (rw (ws.1, vs.1, h.2, take-append-drop n (drop m bs)) (take-append-drop m bs)) in
     at bs t ws.0 vs.0 ub ut ws.2 vs.2 e h.5.0 h.5.1 h.6
 
--- what `trim_start` says
-abbrev pub Starts : List ℕ → List ℕ → Type 0
-Starts bs t = (n : ℕ) × (t ≡ drop n bs) × NoCharPasses is_not_whitespace (take n bs) × ((rest : List ℕ) × EmptyOrStartsWithPassing is_not_whitespace t rest) × (length t ≤ length bs)
-
 -- t is bs behind white characters
 behind : (bs t ws : List ℕ) → IsUtf8 bs → IsUtf8 t → NonePass is_not_whitespace ws → bs ≡ encodes ws ++ t → (rest : List ℕ) → EmptyOrStartsWithPassing is_not_whitespace t rest → t ≡ trim_start bs
 behind bs t ws ub ut hw e rest o =
@@ -100,9 +89,9 @@ behind bs t ws ub ut hw e rest o =
     opened (x ∷ xs) u o =
         let first = o (omega arith) in
         let k = chars_past_char (x ∷ xs) rest first.0 u first.2 in
-        ap trim_front k ∙ rw (is_dark _ first.1) (sym k)
+        ap trim_front k ∙ rw (not-true _ first.1) (sym k)
 
-pub starts_is : (bs t : List ℕ) → IsUtf8 bs → IsUtf8 t → Starts bs t → t ≡ trim_start bs
+pub starts_is : (bs t : List ℕ) → IsUtf8 bs → IsUtf8 t → IsTrimStart bs t → t ≡ trim_start bs
 starts_is bs t ub ut h =
     let ws = h.2 in
     let e : bs ≡ encodes ws.0 ++ t = sym (rw (ws.1, h.1) (take-append-drop h.0 bs)) in

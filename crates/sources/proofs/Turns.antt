@@ -3,8 +3,7 @@ use Rattle.std.proofs.Common.{◌≡◌, ℕ, ◌+◌, ◌<◌, ◌≤◌, Bool,
 use Rattle.std.proofs.lemmas.List.{take-append-drop}
 use Rattle.sources.specs.Bytes.{through}
 use Rattle.sources.specs.Utf8.{is_utf8}
-use Rattle.sources.specs.Texts.{Text, text}
-use Rattle.sources.specs.Lines.{lines_of, walk, judged, Outcome, leaves, broke, on_fault}
+use Rattle.sources.specs.Lines.{lines_of, walk, judged, Outcome, broke, on_fault}
 use Rattle.sources.specs.Faults.{at_line, refused}
 use Rattle.sources.specs.Rules.{Rules}
 use Rattle.sources.specs.declared.fault.Fault.{Fault}
@@ -105,8 +104,3 @@ turn_went {M} {C} {room} {xs} {n} {buf'} {xs'} most R broken taken size m k h b 
     let q : r ≡ at_line (taken + 1) (verdict (R.refused (R.next m (take n xs)))) = e3 ∙ ap (λ (x : Result (Unit {0}) Fault). at_line (taken + 1) x) (e2 ∙ ap (λ (x : M). verdict (R.refused x)) w) in
     turn_kind most R broken taken size m k h b ∙ went (R.refused (R.next m (take n xs))) (taken + 1) (R.next m (take n xs)) xs' _ r u q e4
     ∙ ap (λ (x : M). walk room most R broken (taken + 1) (size + n) x (lines_of xs')) (sym w)
-
--- what is left, as a text
-pub left_as : {M : Type 0} (v : Result ℕ Refusal) (m : M) (t : Text) {b : Bool} → t.broken ≡ b → leaves b (v, m, t.bytes) ≡ (v, m, t)
-unfolding leaves
-left_as {M} v m t {b} k = ap (λ (x : Bool). (v, m, text t.bytes x)) (sym k)

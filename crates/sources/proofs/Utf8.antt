@@ -1,14 +1,10 @@
 -- The table agrees with the library's notion of UTF-8.
-use Rattle.std.proofs.Common.{◌≡◌, ℕ, zero, suc, ◌+◌, ◌-◌, ◌*◌, ◌/◌, ◌%◌, ◌<◌, ◌≤◌, Bool, true, false, ◌&&◌, leb, ◌⊎◌, List, [], ◌∷◌, ◌++◌, length, Some, None, IsUtf8, Option, sym, refl, ap, ◌∙◌, subst, inl, inr, arith, le-ltb, lt-ltb, le-leb, leb-true}
+use Rattle.std.proofs.Common.{◌≡◌, ℕ, zero, suc, ◌+◌, ◌-◌, ◌*◌, ◌/◌, ◌%◌, ◌<◌, ◌≤◌, Bool, true, ◌&&◌, leb, ◌⊎◌, List, [], ◌∷◌, ◌++◌, length, Some, None, IsUtf8, Option, sym, refl, ap, ◌∙◌, subst, inl, inr, arith, le-ltb, lt-ltb, le-leb, leb-true}
 use lib.Utf8.{encode, encodes, scalar, scalars, scalar_cases}
 use Rattle.std.proofs.lemmas.Bool.Decides.{nat_tests}
-use Rattle.std.proofs.lemmas.Bool.{cases_lt}
+use Rattle.std.proofs.lemmas.Bool.{cases_lt, and_parts}
 use Rattle.std.proofs.lemmas.Str.{encode_ascii, IsUtf8-append, IsUtf8-encode, IsUtf8-nil}
 use Rattle.sources.specs.Utf8.{Range, trail, table, inside, row_for, well_formed, is_utf8}
-
-both : (x y : Bool) → x && y ≡ true → (x ≡ true) × (y ≡ true)
-both true y e = (refl, e)
-both false y e = let z : ◌≡◌ {A = ℕ} 0 1 = cc in absurd (omega arith)
 
 pub in_yes : (r : Range) (b : ℕ) → r.0 ≤ b → b ≤ r.1 → inside r b ≡ true
 in_yes r b h k = ap (λ (t : Bool). t && leb b r.1) (le-leb r.0 b h) ∙ le-leb b r.1 k
@@ -116,20 +112,20 @@ form_chars : (cs : List ℕ) → scalars cs ≡ true → is_utf8 (encodes cs) �
 unfolding well_formed
 form_chars [] e = refl
 form_chars (c ∷ cs) e =
-    let p = both (scalar c) (scalars cs) e in
+    let p = and_parts (scalar c) (scalars cs) e in
     form_char c (encodes cs) (scalar_cases c p.0) ∙ form_chars cs p.1
 
 pub text_formed : (bs : List ℕ) → IsUtf8 bs → is_utf8 bs ≡ true
 text_formed bs u = ap is_utf8 (sym u.1.1) ∙ form_chars u.0 u.1.0
 
 in_from : (r : Range) (b : ℕ) → inside r b ≡ true → (r.0 ≤ b) × (b ≤ r.1)
-in_from r b e = let p = both (leb r.0 b) (leb b r.1) e in (leb-true r.0 b p.0, leb-true b r.1 p.1)
+in_from r b e = let p = and_parts (leb r.0 b) (leb b r.1) e in (leb-true r.0 b p.0, leb-true b r.1 p.1)
 
 -- the byte that a range asks for
 next-is : (r : Range) (rs : List Range) (bs : List ℕ) → well_formed (Some (r ∷ rs)) bs ≡ true → (b : ℕ) × (t : List ℕ) × (bs ≡ b ∷ t) × (r.0 ≤ b) × (b ≤ r.1) × (well_formed (Some rs) t ≡ true)
 unfolding well_formed
 next-is r rs [] e = let z : ◌≡◌ {A = ℕ} 0 1 = cc in absurd (omega arith)
-next-is r rs (b ∷ t) e = let p = both (inside r b) (well_formed (Some rs) t) e in let i = in_from r b p.0 in (b, t, refl, i.0, i.1, p.1)
+next-is r rs (b ∷ t) e = let p = and_parts (inside r b) (well_formed (Some rs) t) e in let i = in_from r b p.0 in (b, t, refl, i.0, i.1, p.1)
 
 first_is : (b : ℕ) (bs : List ℕ) {o : Option (List Range)} → row_for table b ≡ o → is_utf8 (b ∷ bs) ≡ true → well_formed o bs ≡ true
 unfolding well_formed

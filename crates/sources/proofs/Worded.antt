@@ -1,17 +1,11 @@
 use Rattle.std.proofs.Common.{◌≡◌, ℕ, ◌+◌, ◌<◌, Bool, true, false, cond, not, eqb, List, [], ◌∷◌, length, get_or, take, drop, Some, None, sym, refl, ap, ◌∙◌, one-add, arith}
 use Rattle.std.specs.Char.{is_ascii_whitespace}
-use Rattle.std.specs.Str.{IsCharBoundary}
+use Rattle.std.specs.Str.{IsCharBoundary, IsTrimAsciiStart}
+use Rattle.std.proofs.lemmas.Str.Ascii.{trim_ascii_start_is}
 use Rattle.std.specs.List.{prefix_len}
-use Rattle.std.proofs.lemmas.List.Sums.{prefix_len-le-length, prefix_len_is}
+use Rattle.std.proofs.lemmas.List.Sums.{prefix_len-le-length}
 use Rattle.std.proofs.lemmas.Bool.Decides.{nat_tests}
-use Rattle.sources.specs.Words.{in_word, skipped, parted, next_word}
-
--- what `trim_ascii_start` says
-abbrev pub Skips : List ℕ → List ℕ → Type 0
-Skips bs r = (n : ℕ) × (r ≡ drop n bs) × (length r + n ≡ length bs) × ((i : ℕ) → i < n → is_ascii_whitespace (get_or bs i 0) ≡ true) × (n < length bs → is_ascii_whitespace (get_or bs n 0) ≡ false)
-
-pub skip_is : (bs r : List ℕ) → Skips bs r → r ≡ skipped bs
-skip_is bs r h = h.1 ∙ sym (ap (λ (n : ℕ). drop n bs) (prefix_len_is is_ascii_whitespace bs h.0 0 (omega arith) h.3 h.4))
+use Rattle.sources.specs.Words.{in_word, parted, next_word}
 
 fails_at : (p : ℕ → Bool) (x n : ℕ) (xs : List ℕ) (b : Bool) → p x ≡ b → (n < length xs → p (get_or xs n 0) ≡ false) → cond b (1 + n) 0 < length (x ∷ xs) → p (get_or (x ∷ xs) (cond b (1 + n) 0) 0) ≡ false
 fails_at p x n xs true e f h = rw (one-add n) (f (omega arith))
@@ -27,10 +21,10 @@ white_small c e = grind (arith, nat_tests)
 pub word_boundary : (bs : List ℕ) → IsCharBoundary bs (prefix_len in_word bs)
 word_boundary bs = (prefix_len-le-length in_word bs, λ l h. absurd (omega (arith, white_small (get_or bs (prefix_len in_word bs) 0) (leading-fails in_word bs l))))
 
-pub none_is : (bs r : List ℕ) → Skips bs r → eqb (length r) 0 ≡ true → None ≡ next_word bs
-none_is bs r h e = sym (ap parted (sym (skip_is bs r h)) ∙ rw e)
+pub none_is : (bs r : List ℕ) → IsTrimAsciiStart bs r → eqb (length r) 0 ≡ true → None ≡ next_word bs
+none_is bs r h e = sym (ap parted (sym (trim_ascii_start_is bs r h)) ∙ rw e)
 
-pub some_is : (bs r x y : List ℕ) → Skips bs r → eqb (length r) 0 ≡ false → x ≡ take (prefix_len in_word r) r → y ≡ drop (prefix_len in_word r) r → Some (x, y) ≡ next_word bs
+pub some_is : (bs r x y : List ℕ) → IsTrimAsciiStart bs r → eqb (length r) 0 ≡ false → x ≡ take (prefix_len in_word r) r → y ≡ drop (prefix_len in_word r) r → Some (x, y) ≡ next_word bs
 some_is bs r x y h e ex ey =
     let same : Some (x, y) ≡ parted r = rw (ex, ey, e) in
-    same ∙ ap parted (skip_is bs r h)
+    same ∙ ap parted (trim_ascii_start_is bs r h)

@@ -1,90 +1,79 @@
-use Rattle.std.proofs.Common.{◌≡◌, ℕ, ◌+◌, ◌-◌, length, take, Ok, Err, IsUtf8, sym, refl, ap, ◌∙◌, subst, arith}
+use Rattle.std.proofs.Common.{◌≡◌, ℕ, ◌-◌, length, take, Err, Result, IsUtf8, sym, refl, ap, ◌∙◌, subst, arith}
 use Rattle.std.proofs.lemmas.Result.{err_from_is_err_and}
-use Rattle.sources.specs.Lines.{course, broke}
-use Rattle.sources.specs.Faults.{refused}
-use Rattle.sources.specs.declared.reason.Reason.TheVariants as reason
+use Rattle.sources.specs.Lines.{course, leaves, walk, lines_of}
+use Rattle.sources.specs.Texts.{text}
+use Rattle.sources.specs.declared.fault.Refusal.{Refusal}
 use Rattle.sources.proofs.Steps.{text_true, text_false}
-use Rattle.sources.proofs.Turns.{turn_ended, turn_broken, turn_long, turn_past, turn_lost, turn_text, turn_stopped, turn_went, left_as}
+use Rattle.sources.proofs.Turns.{turn_ended, turn_broken, turn_long, turn_past, turn_lost, turn_text, turn_stopped, turn_went}
+use Rattle.sources.proofs.drive.lines.Given as given
+use Rattle.sources.proofs.drive.lines.Goals.{After-next_line, In-Line}
 use Rattle.sources.proofs.drive.lines.Goals as goal
 
 pub loop-n-init : goal.loop-n-init
 unfolding course
 loop-n-init g c = (refl, omega arith, omega arith, refl, g.met.K.Kind.framed c.args.kind.now, refl)
 
+-- Where what is left to read comes to v and m, the whole is answered so.
+comes_to : (g : given.Over) (c : After-next_line g) (v : Result ℕ Refusal) (m : g.K.Kind.Meaning) → (g.S.Source.text c.next_line.new.source).broken ≡ (g.S.Source.text c.loop-n.source).broken →
+    walk (length c.loop-n.buf) 268435456 g.K.Kind.rules (g.S.Source.text c.loop-n.source).broken c.loop-n.taken c.loop-n.size (g.K.Kind.means c.loop-n.kind) (lines_of (g.S.Source.text c.loop-n.source).bytes)
+    ≡ (v, m, (g.S.Source.text c.next_line.new.source).bytes) →
+    (v, m, g.S.Source.text c.next_line.new.source) ≡ course g.K.Kind.rules (g.K.Kind.means c.args.kind.now) (g.S.Source.text c.args.source.now)
+unfolding leaves
+comes_to g c v m k w =
+    let i = c.loop-n.invariant in
+    let had = g.S.Source.text c.loop-n.source in
+    ap (λ t. (v, m, text (g.S.Source.text c.next_line.new.source).bytes t)) (k ∙ i.5)
+    ∙ ap (leaves (g.S.Source.text c.args.source.now).broken)
+    (sym w ∙ ap (λ room. walk room 268435456 g.K.Kind.rules had.broken c.loop-n.taken c.loop-n.size (g.K.Kind.means c.loop-n.kind) (lines_of had.bytes)) i.3)
+    ∙ i.0
+
 pub returns-in-Ended-clause-course : goal.returns-in-Ended-clause-course
-returns-in-Ended-clause-course g c =
-    let t = turn_ended 4096 268435456 g.K.Kind.rules c.loop-n.taken c.loop-n.size (g.K.Kind.means c.loop-n.kind) c.in-Ended.ensures.0 in
-    let z = left_as (Ok c.loop-n.taken) (g.K.Kind.means c.loop-n.kind) (g.S.Source.text c.next_line.new.source) (c.in-Ended.ensures.1 ∙ c.loop-n.invariant.5) in
-    let i = c.loop-n.invariant.0 in
-    cc
+returns-in-Ended-clause-course g c = comes_to g (goal.at.returns-in-Ended-clause-course g c).After-next_line _ _ c.in-Ended.ensures.1 (turn_ended _ _ _ _ _ _ c.in-Ended.ensures.0)
 
 pub returns-in-Broken-clause-course : goal.returns-in-Broken-clause-course
-returns-in-Broken-clause-course g c =
-    let t = turn_broken 4096 268435456 g.K.Kind.rules c.loop-n.taken c.loop-n.size (g.K.Kind.means c.loop-n.kind) c.in-Broken.ensures.0 in
-    let z = left_as (broke g.K.Kind.rules.on_break c.loop-n.taken) (g.K.Kind.means c.loop-n.kind) (g.S.Source.text c.next_line.new.source) (c.in-Broken.ensures.1 ∙ c.loop-n.invariant.5) in
-    let i = c.loop-n.invariant.0 in
-    cc
+returns-in-Broken-clause-course g c = rw c.broke.ensures (comes_to g (goal.at.returns-in-Broken-clause-course g c).After-next_line _ _ c.in-Broken.ensures.1 (turn_broken _ _ _ _ _ _ c.in-Broken.ensures.0))
 
 pub returns-in-Long-clause-course : goal.returns-in-Long-clause-course
-returns-in-Long-clause-course g c =
-    let t = turn_long (length c.loop-n.buf) 268435456 g.K.Kind.rules (g.S.Source.text c.loop-n.source).broken c.loop-n.taken c.loop-n.size (g.K.Kind.means c.loop-n.kind) (g.S.Source.text c.loop-n.source).bytes c.next_line.new.buf (g.S.Source.text c.next_line.new.source).bytes c.in-Long.ensures.0 in
-    let z = left_as (Err (refused reason.LongLine (c.loop-n.taken + 1))) (g.K.Kind.means c.loop-n.kind) (g.S.Source.text c.next_line.new.source) (c.in-Long.ensures.1 ∙ c.loop-n.invariant.5) in
-    let i = c.loop-n.invariant.0 in
-    let r = c.loop-n.invariant.3 in
-    cc
+returns-in-Long-clause-course g c = rw c.new.ensures (comes_to g (goal.at.returns-in-Long-clause-course g c).After-next_line _ _ c.in-Long.ensures.1 (turn_long _ _ _ _ _ _ _ _ c.next_line.new.buf _ c.in-Long.ensures.0))
 
 pub returns-then-past_cap-clause-course : goal.returns-then-past_cap-clause-course
 returns-then-past_cap-clause-course g c =
-    let t = turn_past 268435456 g.K.Kind.rules (g.S.Source.text c.loop-n.source).broken c.loop-n.taken c.loop-n.size (g.K.Kind.means c.loop-n.kind) c.in-Lost.ensures.0.0 (omega (arith, c.if-past_cap.ensures)) in
-    let z = left_as (Err (refused reason.LongText (c.loop-n.taken + 1))) (g.K.Kind.means c.loop-n.kind) (g.S.Source.text c.next_line.new.source) (c.in-Lost.ensures.1 ∙ c.loop-n.invariant.5) in
-    let i = c.loop-n.invariant.0 in
-    let r = c.loop-n.invariant.3 in
-    cc
+    rw c.new-then-past_cap.ensures
+    (comes_to g (goal.at.returns-then-past_cap-clause-course g c).After-next_line _ _ c.in-Lost.ensures.1 (turn_past _ _ _ _ _ _ c.in-Lost.ensures.0.0 (omega (arith, c.if-past_cap.ensures))))
 
 pub returns-in-Lost-clause-course : goal.returns-in-Lost-clause-course
 returns-in-Lost-clause-course g c =
-    let t = turn_lost 268435456 g.K.Kind.rules (g.S.Source.text c.loop-n.source).broken c.loop-n.taken c.loop-n.size (g.K.Kind.means c.loop-n.kind) c.in-Lost.ensures.0 (omega (arith, c.if-past_cap.ensures)) in
-    let z = left_as (broke g.K.Kind.rules.on_break c.loop-n.taken) (g.K.Kind.means c.loop-n.kind) (g.S.Source.text c.next_line.new.source) (c.in-Lost.ensures.1 ∙ c.loop-n.invariant.5) in
-    let i = c.loop-n.invariant.0 in
-    let r = c.loop-n.invariant.3 in
-    cc
+    rw c.broke-in-Lost.ensures (comes_to g (goal.at.returns-in-Lost-clause-course g c).After-next_line _ _ c.in-Lost.ensures.1 (turn_lost _ _ _ _ _ _ c.in-Lost.ensures.0 (omega (arith, c.if-past_cap.ensures))))
 
 pub returns-then-past_cap-2-clause-course : goal.returns-then-past_cap-2-clause-course
 returns-then-past_cap-2-clause-course g c =
-    let t = turn_past 268435456 g.K.Kind.rules (g.S.Source.text c.loop-n.source).broken c.loop-n.taken c.loop-n.size (g.K.Kind.means c.loop-n.kind) c.in-Line.ensures.0.0 (omega (arith, c.if-past_cap-2.ensures)) in
-    let z = left_as (Err (refused reason.LongText (c.loop-n.taken + 1))) (g.K.Kind.means c.loop-n.kind) (g.S.Source.text c.next_line.new.source) (c.in-Line.ensures.1 ∙ c.loop-n.invariant.5) in
-    let i = c.loop-n.invariant.0 in
-    let r = c.loop-n.invariant.3 in
-    cc
+    rw c.new-then-past_cap-2.ensures
+    (comes_to g (goal.at.returns-then-past_cap-2-clause-course g c).After-next_line _ _ c.in-Line.ensures.1 (turn_past _ _ _ _ _ _ c.in-Line.ensures.0.0 (omega (arith, c.if-past_cap-2.ensures))))
+
+-- the bytes that `from_utf8` reads are the line's
+front : (g : given.Over) (c : In-Line g) → take (c.in-Line.n - 0) c.next_line.new.buf ≡ take c.in-Line.n (g.S.Source.text c.loop-n.source).bytes
+front g c = let y : c.in-Line.n - 0 ≡ c.in-Line.n = omega arith in ap (λ (k : ℕ). take k c.next_line.new.buf) y ∙ c.in-Line.ensures.0.0.front
 
 pub returns-in-Err-clause-course : goal.returns-in-Err-clause-course
 returns-in-Err-clause-course g c =
-    let y : c.in-Line.n - 0 ≡ c.in-Line.n = omega arith in
-    let q : take (c.in-Line.n - 0) c.next_line.new.buf ≡ take c.in-Line.n (g.S.Source.text c.loop-n.source).bytes = ap (λ (k : ℕ). take k c.next_line.new.buf) y ∙ c.in-Line.ensures.0.0.front in
-    let t = turn_text 268435456 g.K.Kind.rules (g.S.Source.text c.loop-n.source).broken c.loop-n.taken c.loop-n.size (g.K.Kind.means c.loop-n.kind) c.in-Line.ensures.0 (omega (arith, c.if-past_cap-2.ensures)) (text_false (take c.in-Line.n (g.S.Source.text c.loop-n.source).bytes) (λ u. c.in-Err.ensures.cases.0 (subst IsUtf8 (sym q) u))) in
-    let z = left_as (broke g.K.Kind.rules.on_break c.loop-n.taken) (g.K.Kind.means c.loop-n.kind) (g.S.Source.text c.next_line.new.source) (c.in-Line.ensures.1 ∙ c.loop-n.invariant.5) in
-    let i = c.loop-n.invariant.0 in
-    let r = c.loop-n.invariant.3 in
-    cc
+    let q = front g (goal.at.returns-in-Err-clause-course g c).In-Line in
+    rw c.broke-in-Err.ensures
+    (comes_to g (goal.at.returns-in-Err-clause-course g c).After-next_line _ _ c.in-Line.ensures.1 (turn_text _ _ _ _ _ _ c.in-Line.ensures.0 (omega (arith, c.if-past_cap-2.ensures)) (text_false _ (λ u. c.in-Err.ensures.cases.0 (subst IsUtf8 (sym q) u)))))
 
 pub returns-in_err-at_line-in-Ok-clause-course : goal.returns-in_err-at_line-in-Ok-clause-course
 returns-in_err-at_line-in-Ok-clause-course g c =
+    let q = front g (goal.at.returns-in_err-at_line-in-Ok-clause-course g c).In-Line in
     let p = err_from_is_err_and c.from_residual.result c.from_residual.ensures.1 in
-    let y : c.in-Line.n - 0 ≡ c.in-Line.n = omega arith in
-    let q : take (c.in-Line.n - 0) c.next_line.new.buf ≡ take c.in-Line.n (g.S.Source.text c.loop-n.source).bytes = ap (λ (k : ℕ). take k c.next_line.new.buf) y ∙ c.in-Line.ensures.0.0.front in
-    let t = turn_stopped 268435456 g.K.Kind.rules (g.S.Source.text c.loop-n.source).broken c.loop-n.taken c.loop-n.size (g.K.Kind.means c.loop-n.kind) c.in-Line.ensures.0 (omega (arith, c.if-past_cap-2.ensures)) (text_true (take c.in-Line.n (g.S.Source.text c.loop-n.source).bytes) (subst IsUtf8 q c.in-Ok.ensures.cases.1))
-    (g.K.Kind.means c.take.new.self) c.in-Ok.line.now c.take.result c.at_line.result (c.in-Ok.ensures.cases.0 ∙ q) c.take.ensures.next c.take.ensures.verdict c.at_line.ensures c.in_err-at_line-in-Ok.field-0.0 c.in_err-at_line-in-Ok.was in
-    let z = left_as c.from_residual.result (g.K.Kind.means c.take.new.self) (g.S.Source.text c.next_line.new.source) (c.in-Line.ensures.1 ∙ c.loop-n.invariant.5) in
-    let p1 = p.1 in let p2 = p.2 in
-    let i = c.loop-n.invariant.0 in
-    let r = c.loop-n.invariant.3 in
-    cc
+    let e : c.from_residual.result ≡ Err c.in_err-at_line-in-Ok.field-0.0 = let a = p.1 in let b = p.2 in cc in
+    rw e
+    (comes_to g (goal.at.returns-in_err-at_line-in-Ok-clause-course g c).After-next_line _ _ c.in-Line.ensures.1
+    (turn_stopped _ _ _ _ _ _ c.in-Line.ensures.0 (omega (arith, c.if-past_cap-2.ensures)) (text_true _ (subst IsUtf8 q c.in-Ok.ensures.cases.1))
+    _ c.in-Ok.line.now _ _ (c.in-Ok.ensures.cases.0 ∙ q) c.take.ensures.next c.take.ensures.verdict c.at_line.ensures _ c.in_err-at_line-in-Ok.was))
 
 pub loop-n-preserved : goal.loop-n-preserved
 loop-n-preserved g c =
-    let y : c.in-Line.n - 0 ≡ c.in-Line.n = omega arith in
-    let q : take (c.in-Line.n - 0) c.next_line.new.buf ≡ take c.in-Line.n (g.S.Source.text c.loop-n.source).bytes = ap (λ (k : ℕ). take k c.next_line.new.buf) y ∙ c.in-Line.ensures.0.0.front in
-    let t = turn_went 268435456 g.K.Kind.rules (g.S.Source.text c.loop-n.source).broken c.loop-n.taken c.loop-n.size (g.K.Kind.means c.loop-n.kind) c.in-Line.ensures.0 (omega (arith, c.if-past_cap-2.ensures)) (text_true (take c.in-Line.n (g.S.Source.text c.loop-n.source).bytes) (subst IsUtf8 q c.in-Ok.ensures.cases.1))
+    let q = front g (goal.at.loop-n-preserved g c).In-Line in
+    let t = turn_went 268435456 g.K.Kind.rules _ c.loop-n.taken c.loop-n.size (g.K.Kind.means c.loop-n.kind) c.in-Line.ensures.0 (omega (arith, c.if-past_cap-2.ensures)) (text_true _ (subst IsUtf8 q c.in-Ok.ensures.cases.1))
     (g.K.Kind.means c.take.new.self) c.in-Ok.line.now c.take.result c.at_line.result (c.in-Ok.ensures.cases.0 ∙ q) c.take.ensures.next c.take.ensures.verdict c.at_line.ensures c.in_ok-at_line-in-Ok.field-0 c.in_ok-at_line-in-Ok.was in
     let l = c.in-Line.ensures.0.0 in
     let i = c.loop-n.invariant.0 in

@@ -11,4 +11,4 @@ pub returns-in-Broken-piece : goal.returns-in-Broken-piece
 returns-in-Broken-piece g c = (came_lost _ c.requires c.in-Bytes.ensures c.if-buf-n-eq10.false (omega arith) (omega arith) (omega arith) c.in-Broken-piece.ensures, c.piece-in-Bytes.ensures.keeps ∙ c.piece.ensures.keeps)
 
 pub returns-in_default : goal.returns-in_default
-returns-in_default g c = (came_rest _ c.requires c.in-Bytes.ensures c.if-buf-n-eq10.false (omega arith) (omega arith) (omega arith) (simp (length-take, length-drop) (omega (arith, (seen c.args.buf.now (g.S.Source.text c.args.source.now).bytes (g.S.Source.text c.args.source.now).broken c.in-Bytes.n c.piece.new.buf (g.S.Source.text c.piece.new.self).bytes (g.S.Source.text c.piece.new.self).broken c.requires c.in-Bytes.ensures).is))) c.piece-in-Bytes.ensures c.in_default.not-Broken, c.piece-in-Bytes.ensures.keeps ∙ c.piece.ensures.keeps)
+returns-in_default g c = (came_rest _ c.requires c.in-Bytes.ensures c.if-buf-n-eq10.false (omega arith) (omega arith) (omega arith) (simp (length-take, length-drop) (omega (arith, (seen _ _ _ _ _ _ _ c.requires c.in-Bytes.ensures).is))) c.piece-in-Bytes.ensures c.in_default.not-Broken, c.piece-in-Bytes.ensures.keeps ∙ c.piece.ensures.keeps)
