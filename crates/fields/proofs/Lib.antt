@@ -1,4 +1,3 @@
 mod Fills
-pub mod Told
 pub mod Courses
 pub mod Into

@@ -1,6 +1,6 @@
 -- An attribute's line, as "Rss: 4 kB": words between ASCII white bytes.
-use Rattle.std.specs.Prelude.{ℕ, ◌*◌, ◌^◌, cond, List, [], ◌∷◌, reverse, Some, None, Ok, Err, Option, Result, ◌==◌, nat_lt}
-use Rattle.std.specs.Option.{option_map}
+use Rattle.std.specs.Prelude.{ℕ, Bool, ◌*◌, ◌^◌, cond, List, [], ◌∷◌, reverse, Some, None, Ok, Err, Option, Result, ◌==◌, nat_lt}
+use Rattle.std.specs.Option.{option_map, is_some}
 use Rattle.std.specs.Result.{result_map_both}
 use Rattle.sources.specs.declared.fault.Fault.{Fault}
 use Rattle.sources.specs.declared.number.Radix.TheVariants.{Decimal}
@@ -8,7 +8,8 @@ use Rattle.sources.specs.declared.reason.Reason.TheVariants.{Value, Scale}
 use Rattle.sources.specs.Faults.{fault, and_then}
 use Rattle.sources.specs.Number.{unsigned}
 use Rattle.sources.specs.Pieces.{case_of}
-use Rattle.sources.specs.Words.{next_word}
+use Rattle.sources.specs.White.{nth}
+use Rattle.sources.specs.Words.{ascii_words}
 use Rattle.kinds.specs.declared.attribute.Attribute.{Attribute}
 
 abbrev pub after_colons : List ℕ → List ℕ
@@ -27,18 +28,18 @@ pub record Entry : Type 0 where
 abbrev pub amount_of : List ℕ → Result ℕ Fault
 amount_of bs = result_map_both (λ n. n) (λ f. fault Value) (unsigned 64 Decimal bs)
 
--- The number, times 1024 where a word follows it.
-abbrev pub scaled : ℕ → List ℕ → Result ℕ Fault
-scaled n rest = case_of (next_word rest) (Ok n) (λ _. cond (nat_lt (n * 1024) (2 ^ 64)) (Ok (n * 1024)) (Err (fault Scale)))
+-- The number, times 1024 where it has a unit.
+abbrev pub scaled : ℕ → Bool → Result ℕ Fault
+scaled n unit = cond unit (cond (nat_lt (n * 1024) (2 ^ 64)) (Ok (n * 1024)) (Err (fault Scale))) (Ok n)
 
--- What a line says: nothing, where it has fewer than two words.
+-- What a line says: nothing, where it has fewer than two words. A third word, whichever it is, is a unit.
 abbrev pub entry_of : List ℕ → Result (Option Entry) Fault
 entry_of bs =
-    case_of (next_word bs) (Ok None) (λ k.
-    case_of (next_word k.1) (Ok None) (λ v.
-    and_then (amount_of v.0) (λ n.
-    and_then (scaled n v.1) (λ m.
-    Ok (Some (record { key = bare k.0; amount = m }))))))
+    case_of (nth 0 (ascii_words bs)) (Ok None) (λ key.
+    case_of (nth 1 (ascii_words bs)) (Ok None) (λ value.
+    and_then (amount_of value) (λ n.
+    and_then (scaled n (is_some (nth 2 (ascii_words bs)))) (λ m.
+    Ok (Some (record { key = bare key; amount = m }))))))
 
 -- What an attribute that borrows its line says.
 abbrev pub told_entry : Attribute → Entry

@@ -4,7 +4,6 @@ ghost use Rattle.kinds.specs.Attribute.{bare as bare_of, entry_of, scaled as sca
 use sources::fault::Fault;
 use sources::number::{FromStrRadix, Radix};
 use sources::reason::Reason;
-use sources::words::next_word;
 
 // What an attribute's line says of its mapping.
 #[derive(Clone, Copy, PartialEq, Eq, Debug)]
@@ -26,14 +25,14 @@ fn amount(word: &str) -> Result<u64, Fault>
     FromStrRadix::from_str_radix(word, Radix::Decimal).map_err(|_| Fault::new(Reason::Value))
 }
 
-// The number, times 1024 where a word follows it.
-fn scaled(n: u64, rest: &str) -> Result<u64, Fault>
-    ensures { result ≡ scaled_of n rest.now }
+// The number, times 1024 where it has a unit.
+fn scaled(n: u64, unit: bool) -> Result<u64, Fault>
+    ensures { result ≡ scaled_of n unit }
 {
-    match next_word(rest) {
-        None => Ok(n),
-        Some(_) => n.checked_mul(1024).ok_or(Fault::new(Reason::Scale)),
+    if !unit {
+        return Ok(n);
     }
+    n.checked_mul(1024).ok_or(Fault::new(Reason::Scale))
 }
 
 impl<'a> Attribute<'a> {
@@ -41,13 +40,11 @@ impl<'a> Attribute<'a> {
     pub fn from_line(line: &'a str) -> Result<Option<Attribute<'a>>, Fault>
         ensures { seen_entry result ≡ entry_of line.now }
     {
-        let Some((key, rest)) = next_word(line) else {
+        let mut words = line.split_ascii_whitespace();
+        let (Some(key), Some(value)) = (words.next(), words.next()) else {
             return Ok(None);
         };
-        let Some((value, rest)) = next_word(rest) else {
-            return Ok(None);
-        };
-        let amount = scaled(amount(value)?, rest)?;
+        let amount = scaled(amount(value)?, words.next().is_some())?;
         Ok(Some(Attribute {
             key: bare(key),
             amount,

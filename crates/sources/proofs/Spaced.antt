@@ -2,38 +2,18 @@
 use Rattle.std.proofs.Common.{◌≡◌, ℕ, ◌<◌, true, List, [], ◌∷◌, ◌++◌, map, length, drop, Some, None, IsUtf8, Option, sym, refl, ap, ◌∙◌, subst, append_assoc, arith, Bor}
 use lib.Utf8.{encode, encodes, scalar, scalars}
 use Rattle.std.specs.Char.{is_whitespace, is_not_whitespace}
-use Rattle.std.specs.Str.{NonePass, NoCharPasses, EmptyOrStartsWithPassing, chars}
+use Rattle.std.specs.Str.{NoCharPasses, EmptyOrStartsWithPassing, chars}
 use Rattle.std.proofs.lemmas.Str.{encodes-append, encodes_same, encodes-chars, chars-nil, chars_past_char, cons_from_encodes}
 use Rattle.std.specs.Option.{option_map}
 use Rattle.std.specs.Str.Iter.{split_whitespace_rest, split_whitespace_steps}
 use Rattle.std.specs.declared.str.SplitWhitespace.{SplitWhitespace}
 use Rattle.sources.specs.Pieces.{bytes_of}
-use Rattle.sources.specs.White.{join, char_words, white_words, nth}
+use Rattle.sources.specs.Words.{words_between}
+use Rattle.sources.specs.White.{white_words, nth}
 use Rattle.std.proofs.lemmas.Iterator.{YieldsList}
 use Rattle.std.proofs.lemmas.Iterator.Splits.{YieldsList-from_shown_while}
-use Rattle.std.proofs.lemmas.Bool.{not-false, and_parts}
-
-skip_gap : (gs cs : List ℕ) → NonePass is_not_whitespace gs → char_words (gs ++ cs) ≡ char_words cs
-skip_gap [] cs h = refl
-skip_gap (g ∷ gs) cs h = rw (not-false (is_whitespace g) h.0) (skip_gap gs cs h.1)
-
-all_gap : (gs : List ℕ) → NonePass is_not_whitespace gs → char_words gs ≡ []
-all_gap [] h = refl
-all_gap (g ∷ gs) h = rw (not-false (is_whitespace g) h.0) (all_gap gs h.1)
-
--- no character, or a white one first
-abbrev Stops : List ℕ → Type 0
-Stops [] = Unit {0}
-Stops (c ∷ cs) = is_whitespace c ≡ true
-
-join-stops : (c : ℕ) (rs : List ℕ) → Stops rs → (ws : List (List ℕ)) → join c rs ws ≡ (c ∷ []) ∷ ws
-join-stops c [] h ws = refl
-join-stops c (r ∷ rs) h ws = rw h
-
--- one word and then what follows it
-one_word : (x : ℕ) (xs rs : List ℕ) → NonePass is_whitespace (x ∷ xs) → Stops rs → char_words (x ∷ (xs ++ rs)) ≡ (x ∷ xs) ∷ char_words rs
-one_word x [] rs h s = rw h.0 (join-stops x rs s (char_words rs))
-one_word x (y ∷ ys) rs h s = rw (h.0, one_word y ys rs h.1 s, h.1.0)
+use Rattle.std.proofs.lemmas.Bool.{and_parts}
+use Rattle.sources.proofs.Worded.{all_gap, Stops, one_word}
 
 -- the characters of a text in three parts
 three : (s x t gs xs : List ℕ) → IsUtf8 s → IsUtf8 t → s ≡ encodes gs ++ (encodes xs ++ t) → chars s ≡ gs ++ (xs ++ chars t)
@@ -41,28 +21,28 @@ three s x t gs xs us ut e =
     encodes_same (chars s) (gs ++ (xs ++ chars t))
     (encodes-chars s us ∙ e ∙ sym (encodes-append gs (xs ++ chars t) ∙ rw (encodes-append xs (chars t), encodes-chars t ut)))
 
-stops : (t more : List ℕ) → IsUtf8 t → EmptyOrStartsWithPassing is_whitespace t more → Stops (chars t)
-stops [] more u o = subst Stops (sym chars-nil) tt
+stops : (t more : List ℕ) → IsUtf8 t → EmptyOrStartsWithPassing is_whitespace t more → Stops is_whitespace (chars t)
+stops [] more u o = subst (Stops is_whitespace) (sym chars-nil) tt
 stops (b ∷ bs) more u o =
     let h = o (omega arith) in
-    subst Stops (sym (chars_past_char (b ∷ bs) more h.0 u h.2)) h.1
+    subst (Stops is_whitespace) (sym (chars_past_char (b ∷ bs) more h.0 u h.2)) h.1
 
-some_chars : (gs xs rs : List ℕ) → NonePass is_not_whitespace gs → NonePass is_whitespace xs → 0 < length (encodes xs) → Stops rs → char_words (gs ++ (xs ++ rs)) ≡ xs ∷ char_words rs
-some_chars gs [] rs hg hx l s = absurd (omega arith)
-some_chars gs (x ∷ xs) rs hg hx l s = skip_gap gs ((x ∷ xs) ++ rs) hg ∙ one_word x xs rs hx s
+some_chars : (xs : List ℕ) → 0 < length (encodes xs) → 0 < length xs
+some_chars [] l = l
+some_chars (x ∷ xs) l = omega arith
 
 pub word_step : (s x t gap more : List ℕ) → IsUtf8 s → IsUtf8 t → s ≡ gap ++ (x ++ t) → 0 < length x → NoCharPasses is_not_whitespace gap → NoCharPasses is_whitespace x → EmptyOrStartsWithPassing is_whitespace t more → white_words s ≡ x ∷ white_words t
 word_step s x t gap more us ut e l wg wx o =
     let es : s ≡ encodes wg.0 ++ (encodes wx.0 ++ t) = rw (wg.1, wx.1) e in
     let lx : 0 < length (encodes wx.0) = rw wx.1 l in
-    ap (λ (cs : List ℕ). map encodes (char_words cs)) (three s x t wg.0 wx.0 us ut es)
-    ∙ ap (map encodes) (some_chars wg.0 wx.0 (chars t) wg.2 wx.2 lx (stops t more ut o))
+    ap (λ (cs : List ℕ). map encodes (words_between is_whitespace cs)) (three s x t wg.0 wx.0 us ut es)
+    ∙ ap (map encodes) (one_word is_whitespace wg.0 wx.0 (chars t) wg.2 wx.2 (some_chars wx.0 lx) (stops t more ut o))
     ∙ ap (λ (y : List ℕ). y ∷ white_words t) wx.1
 
 pub word_none : (s : List ℕ) → IsUtf8 s → NoCharPasses is_not_whitespace s → white_words s ≡ []
 word_none s us w =
     let e : chars s ≡ w.0 = encodes_same (chars s) w.0 (encodes-chars s us ∙ sym w.1) in
-    ap (λ (cs : List ℕ). map encodes (char_words cs)) e ∙ ap (map encodes) (all_gap w.0 w.2)
+    ap (λ (cs : List ℕ). map encodes (words_between is_whitespace cs)) e ∙ ap (map encodes) (all_gap is_whitespace w.0 w.2)
 
 -- characters before a rest are the first of a text's
 split_encodes : (gs us rest : List ℕ) → encodes us ≡ encodes gs ++ rest → (es : List ℕ) × (us ≡ gs ++ es) × (encodes es ≡ rest)

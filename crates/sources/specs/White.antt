@@ -3,6 +3,7 @@ use Rattle.std.specs.Prelude.{ℕ, zero, suc, cond, List, [], ◌∷◌, map, So
 use Rattle.std.proofs.Math.Utf8.{encodes}
 use Rattle.std.specs.Char.{is_whitespace}
 use Rattle.std.specs.Str.{chars}
+use Rattle.sources.specs.Words.{words_between}
 
 abbrev pub trim_front : List ℕ → List ℕ
 trim_front [] = []
@@ -25,23 +26,9 @@ trim bs = encodes (trim_back (trim_front (chars bs)))
 abbrev pub trim_start : List ℕ → List ℕ
 trim_start bs = encodes (trim_front (chars bs))
 
--- c at the front of the first word, or a word of its own
-abbrev pub onto : ℕ → List (List ℕ) → List (List ℕ)
-onto c [] = (c ∷ []) ∷ []
-onto c (w ∷ ws) = (c ∷ w) ∷ ws
-
--- a character that is not white, before the characters that follow and their words
-abbrev pub join : ℕ → List ℕ → List (List ℕ) → List (List ℕ)
-join c [] ws = (c ∷ []) ∷ ws
-join c (d ∷ ds) ws = cond (is_whitespace d) ((c ∷ []) ∷ ws) (onto c ws)
-
--- the words between white characters
-abbrev pub char_words : List ℕ → List (List ℕ)
-char_words [] = []
-char_words (c ∷ cs) = cond (is_whitespace c) (char_words cs) (join c cs (char_words cs))
-
+-- The words between white characters.
 abbrev pub white_words : List ℕ → List (List ℕ)
-white_words bs = map encodes (char_words (chars bs))
+white_words bs = map encodes (words_between is_whitespace (chars bs))
 
 -- the element at a place
 abbrev pub nth : {X : Type 0} → ℕ → List X → Option X

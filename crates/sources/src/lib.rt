@@ -12,4 +12,3 @@ pub mod reason;
 mod recording;
 pub mod source;
 pub mod spool;
-pub mod words;

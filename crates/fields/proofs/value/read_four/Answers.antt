@@ -1,6 +1,6 @@
 use Rattle.std.proofs.Common.{IsUtf8, sym, subst}
 use Rattle.sources.proofs.Spaced.{words_next}
-use Rattle.fields.proofs.Told.{nth_drop}
+use Rattle.sources.proofs.Worded.{nth_drop}
 use Rattle.fields.proofs.value.read_four.Goals as goal
 
 pub returns : goal.returns
