@@ -14,7 +14,7 @@ use std::process::ExitCode;
 const ROOM: usize = LONGEST + 1;
 
 // Reads until the end of the input or of the buffer, and answers how many bytes came.
-// No Vec, and so no heap: want of memory would be an error of this program.
+// No Vec: want of memory would be an error of this program, which has none of its own now (docs/DECISIONS.md).
 fn read_all<R: Read>(input: &mut R, buf: &mut [u8]) -> io::Result<usize>
     ensures { IfOk result (λ n. n ≤ length buf.new) }
 {

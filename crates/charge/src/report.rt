@@ -5,7 +5,6 @@ use kinds::measure::{Closed, Figures, measure};
 use sources::fault::Refusal;
 use sources::held::Held;
 use sources::reason::Reason;
-use std::error::Error;
 use std::fmt;
 
 // The longest input.
@@ -16,7 +15,7 @@ pub const LONGEST: usize = 65536;
 pub struct Charged(pub Closed);
 
 // Why an input is not charged.
-#[derive(Debug, Drop)]
+#[derive(Drop)]
 pub struct Refused(pub Refusal);
 
 impl fmt::Display for Charged {
@@ -39,8 +38,6 @@ impl fmt::Display for Refused {
         write!(f, "refused {} line {}", self.0.reason.number(), self.0.line)
     }
 }
-
-impl Error for Refused {}
 
 impl From<Refusal> for Refused {
     ghost from_gives = { λ f r. r ≡ record { 0 = f } };

@@ -26,6 +26,7 @@ impl<S: Slots> Filling<S> {
         ensures next { self.new.state ≡ and_then self.old.state (λ s. S.Slots.after s line.now) }
         ensures verdict { result ≡ verdict_of (result_err self.new.state) }
     {
+        // A match, since `and_then` would borrow the line in a closure and say no more.
         let taken = match &mut self.state {
             Ok(slots) => slots.put_line(line),
             Err(f) => Err(*f),

@@ -16,7 +16,7 @@ use sources::reason::Reason;
 use sources::source::Source;
 use sources::spool::Spool;
 
-// The most that one total may be, 2 to the 56th. It is passed on as `cap`, so that no proof opens so large a number.
+// The most that one total may be, 2 to the 56th. It is passed on as `cap`: the sums and their laws are those of any cap, and name no number.
 const CAP: u64 = 72057594037927936;
 
 // One figure for each of the keys, in bytes.
@@ -157,6 +157,7 @@ fn step(state: State, sort: Sort, cap: u64) -> State
 }
 
 impl Open {
+    // By name, and no Default: its contract is the meaning before any line.
     pub fn new() -> Open
         ensures { result.state ≡ fresh }
     {

@@ -22,6 +22,7 @@ pub struct StatusText {
 }
 
 impl StatusText {
+    // By name, and no Default: its contract is the meaning before any line.
     pub fn new() -> StatusText
         ensures { result.filling.state ≡ fresh }
     {

@@ -28,6 +28,7 @@ impl LimitsSlots {
         requires { place < 16 }
         ensures { result ≡ needed (place + 1) (slice_index_or self.now.slots place None) }
     {
+        // The check shows that it fits.
         needed(place as u8 + 1, self.slots[place])
     }
 }

@@ -26,6 +26,7 @@ mod tests {
     fn record(text: &[u8], mark: u8) -> [u8; 64] {
         let n = text.len().min(62);
         let mut record = [0; 64];
+        // The check shows that it fits.
         record[0] = n as u8;
         record[1] = mark;
         record[2..2 + n].copy_from_slice(&text[..n]);

@@ -82,6 +82,7 @@ fn replay(rt: &(impl Files + Print + AllocGlobal), read: Reading, name: &str) ->
 {
     let list = fs::read_to_string(rt, name)?;
     let texts = list.as_str().lines().count();
+    // Counted where they are printed.
     let mut differ = 0u64;
     for line in list.as_str().lines() {
         if let Some(answer) = difference(rt.alloc(), read, line)? {

@@ -114,7 +114,7 @@ pub fn read<S: Source, K: Close + Drop>(source: &mut S, kind: K) -> Result<K::Cl
     at_line(kind.close(), taken)
 }
 
-// Reads a text by a kind that writes to lent memory.
+// Reads a text by a kind that is closed where it stands.
 pub fn fill<S: Source, K: Finish>(source: &mut S, kind: &mut K) -> Result<K::Closed, Refusal>
     ensures reading { (result, S.text source.new) ≡ reading K.Kind.rules (K.Kind.means kind.old) (S.text source.old) }
     ensures means { K.Kind.means kind.new ≡ (course K.Kind.rules (K.Kind.means kind.old) (S.text source.old)).1 }

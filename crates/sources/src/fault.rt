@@ -9,14 +9,14 @@ pub enum NumberFault {
     Unreadable,
 }
 
-// What a kind finds wrong, with the number of the field that it judged, or 0.
+// What a kind finds wrong, with the number of the field that it judged, or 0, as in a refusal.
 #[derive(Clone, Copy, PartialEq, Eq, Debug)]
 pub struct Fault {
     pub reason: Reason,
     pub field: u8,
 }
 
-// A fault with the number of its line, or 0. It is flat, and 0 stands for none, since its figures are told side by side.
+// A fault with the number of its line, or 0. It is flat, and 0 stands for none, as the rules number lines and fields from 1 on and C is handed its figures side by side.
 #[derive(Clone, Copy, PartialEq, Eq, Debug)]
 pub struct Refusal {
     pub reason: Reason,

@@ -18,6 +18,7 @@ pub enum Radix {
 }
 
 impl Radix {
+    // One match, and no discriminants: bases are asked for here alone.
     fn base(self) -> u32
         ensures { result ≡ base_of self }
     {

@@ -35,6 +35,7 @@ impl Reason {
         self as u8
     }
 
+    // No Display: callers want the word itself, which is not made anew.
     pub fn word(self) -> &'static str
         ensures { result.now ≡ word_of self }
     {
