@@ -1,4 +1,4 @@
-use Rattle.std.proofs.Common.{◌≡◌, ℕ, ◌-◌, length, take, Err, Result, IsUtf8, sym, refl, ap, ◌∙◌, subst, arith}
+use Rattle.std.proofs.Common.{rules, ◌≡◌, ℕ, ◌-◌, length, take, Err, Result, IsUtf8, sym, refl, ap, ◌∙◌, subst, arith}
 use Rattle.std.proofs.lemmas.Result.{err_from_is_err_and}
 use Rattle.sources.specs.Lines.{course, leaves, walk, lines_of}
 use Rattle.sources.specs.Texts.{text}
@@ -34,7 +34,9 @@ pub returns-in-Broken-clause-course : goal.returns-in-Broken-clause-course
 returns-in-Broken-clause-course g c = rw c.broke.ensures (comes_to g (goal.at.returns-in-Broken-clause-course g c).After-next_line _ _ c.in-Broken.ensures.1 (turn_broken _ _ _ _ _ _ c.in-Broken.ensures.0))
 
 pub returns-in-Long-clause-course : goal.returns-in-Long-clause-course
-returns-in-Long-clause-course g c = rw c.new.ensures (comes_to g (goal.at.returns-in-Long-clause-course g c).After-next_line _ _ c.in-Long.ensures.1 (turn_long _ _ _ _ _ _ _ _ c.next_line.new.buf _ c.in-Long.ensures.0))
+returns-in-Long-clause-course g c =
+    let w = comes_to g (goal.at.returns-in-Long-clause-course g c).After-next_line _ _ c.in-Long.ensures.1 (turn_long _ _ _ _ _ _ _ _ c.next_line.new.buf _ c.in-Long.ensures.0) in
+    search rules
 
 pub returns-then-past_cap-clause-course : goal.returns-then-past_cap-clause-course
 returns-then-past_cap-clause-course g c =
