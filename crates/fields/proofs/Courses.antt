@@ -54,7 +54,7 @@ off_ok {M} {C} R Ends k m left c e h q = cc
 module _ {E S R : Type 0} (entry : List ℕ → Result (Option E) Fault) (fill : List E → S → S) (judges : S → Result R Fault) (fresh : S) (on_break : Break)
     (more : (e : E) (es : List E) → fill (e ∷ []) (fill es fresh) ≡ fill (e ∷ es) fresh) where
   abbrev rules : Rules (Result S Fault) R
-  rules = slot_rules (λ s l. after_entry fill s (entry l)) judges on_break
+  rules = slot_rules entry fill judges on_break
 
   -- one entry more
   entered-put : (o : Option E) (es : List E) → entered fill (fill es fresh) o ≡ fill (put (Ok o) es) fresh

@@ -1,5 +1,5 @@
 -- The laws of a reading into a record, of an answer and a record that are the reading's.
-use Rattle.std.proofs.Common.{◌≡◌, ℕ, Bool, true, List, [], ◌∷◌, Ok, Err, Option, Result, sym, refl, ap, ◌∙◌, subst}
+use Rattle.std.proofs.Common.{◌≡◌, ℕ, Bool, true, List, [], ◌∷◌, None, Ok, Err, Option, Result, sym, refl, ap, ◌∙◌, subst}
 use Rattle.sources.specs.declared.fault.Fault.{Fault}
 use Rattle.sources.specs.declared.fault.Refusal.{Refusal}
 use Rattle.sources.specs.declared.kind.Break.{Break}
@@ -8,7 +8,6 @@ use Rattle.sources.specs.Lines.{reading}
 use Rattle.sources.specs.Texts.{Text, text}
 use Rattle.sources.specs.Rules.{Rules}
 use Rattle.sources.proofs.Newer.{newer}
-use Rattle.fields.specs.Slots.{after_entry}
 use Rattle.fields.specs.Slotted.{slot_rules, has_begun, foreign_aside, begins_with_any}
 use Rattle.fields.specs.LastLines.{told, recorded, into, ToldByLastLines, SameRecordInEditions}
 use Rattle.fields.proofs.Courses.{orderly-answered, accepted_orderly}
@@ -25,12 +24,9 @@ told-ok {R} {A} (Err f) e k = cc
 
 module _ {E S R : Type 0} (entry : List ℕ → Result (Option E) Fault) (fill : List E → S → S) (judges : S → Result R Fault) (fresh : S) (blank : R) (on_break : Break)
     (none : fill [] fresh ≡ fresh) (more : (e : E) (es : List E) → fill (e ∷ []) (fill es fresh) ≡ fill (e ∷ es) fresh)
-    (foreign : List ℕ → Bool) (keeps : (s : S) (line : List ℕ) → foreign line ≡ true → after_entry fill s (entry line) ≡ Ok s) where
-  abbrev after : S → List ℕ → Result S Fault
-  after s l = after_entry fill s (entry l)
-
+    (foreign : List ℕ → Bool) (aside : (line : List ℕ) → foreign line ≡ true → entry line ≡ Ok None) where
   abbrev rules : Rules (Result S Fault) R
-  rules = slot_rules after judges on_break
+  rules = slot_rules entry fill judges on_break
 
   abbrev result : Text → Result R Refusal
   result t = (reading rules (Ok fresh) t).0
@@ -38,18 +34,25 @@ module _ {E S R : Type 0} (entry : List ℕ → Result (Option E) Fault) (fill :
   from_none : (t : Text) → (reading rules (Ok (fill [] fresh)) t).0 ≡ result t
   from_none t = ap (λ (s : S). (reading rules (Ok s) t).0) none
 
-  pub by_last_lines : (t : Text) → ToldByLastLines entry fill judges fresh blank on_break t (told (result t)) (recorded blank (result t))
+  by_last_lines : (t : Text) → ToldByLastLines entry fill judges fresh blank on_break t (told (result t)) (recorded blank (result t))
   by_last_lines t = (
     λ o. let e = sym (from_none t) ∙ orderly-answered entry fill judges fresh on_break more t o in record { answer = ap told e; holds = ap (recorded blank) e },
     λ h. told-ok (result t) h (λ v e. accepted_orderly entry fill judges fresh on_break more t v (from_none t ∙ e)),
   )
 
-  pub same-editions : (t : Text) → SameRecordInEditions rules has_begun foreign (Ok fresh) blank t (told (result t)) (recorded blank (result t))
+  same-editions : (t : Text) → SameRecordInEditions rules has_begun foreign (Ok fresh) blank t (told (result t)) (recorded blank (result t))
   same-editions t bytes' d h =
-      same-told blank (result t) (result (text bytes' t.broken)) (newer rules has_begun foreign (foreign_aside after judges on_break foreign keeps) (begins_with_any after judges on_break) (Ok fresh) t bytes' refl d h)
+      same-told blank (result t) (result (text bytes' t.broken)) (newer rules has_begun foreign (foreign_aside entry fill judges on_break foreign aside) (begins_with_any entry fill judges on_break) (Ok fresh) t bytes' refl d h)
 
--- What holds of a reading's answer, record and rest holds of a call's that are those.
-pub given : {R : Type 0} (blank : R) (P : Result (Unit {0}) Refusal × R × Text → Type 0) {o : Result R Refusal × Text} {x : Result R Refusal} {left : Text} {r : Result (Unit {0}) Refusal} {b v : R} →
-    P (into blank o) → (x, left) ≡ o → b ≡ blank → r ≡ told x → v ≡ recorded b x → P (r, v, left)
-given {R} blank P {o} {x} {left} {r} {b} {v} h e f g k =
-    let q : (r, v, left) ≡ into blank o = rw (g, k, f) (ap (into blank) e) in subst P (sym q) h
+  -- what is shown of an answer, a record and the text left
+  pub record Shown (t : Text) (o : Result (Unit {0}) Refusal × R × Text) : Type 0 where
+    pub defined : o ≡ into blank (reading rules (Ok fresh) t)
+    pub lines : ToldByLastLines entry fill judges fresh blank on_break t o.0 o.1
+    pub editions : SameRecordInEditions rules has_begun foreign (Ok fresh) blank t o.0 o.1
+
+  -- It holds of what the reading answers, puts into the record and leaves.
+  pub shown : (t : Text) {x : Result R Refusal} {left : Text} {r : Result (Unit {0}) Refusal} {b v : R} →
+      (x, left) ≡ reading rules (Ok fresh) t → b ≡ blank → r ≡ told x → v ≡ recorded b x → Shown t (r, v, left)
+  shown t {x} {left} {r} {b} {v} e f g k =
+      let q : (r, v, left) ≡ into blank (reading rules (Ok fresh) t) = rw (g, k, f) (ap (into blank) e) in
+      subst (Shown t) (sym q) (record { defined = refl; lines = by_last_lines t; editions = same-editions t })

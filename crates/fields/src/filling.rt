@@ -1,13 +1,20 @@
-ghost use Rattle.std.specs.Prelude.{◌≡◌, Ok};
+ghost use Rattle.std.specs.Prelude.{◌≡◌, ◌∷◌, [], Ok, refl, Result as ResultOf};
 ghost use Rattle.std.specs.Result.{result_err};
-ghost use Rattle.fields.specs.LastLines.{told, recorded};
+ghost use Rattle.sources.specs.declared.fault.Fault.{Fault as FaultOf};
 ghost use Rattle.sources.specs.Faults.{and_then};
+ghost use Rattle.sources.specs.Lines.{reading};
 ghost use Rattle.sources.specs.Rules.{verdict as verdict_of};
+ghost use Rattle.fields.specs.LastLines.{told, recorded, into, ToldByLastLines, SameRecordInEditions};
+ghost use Rattle.fields.specs.Slots.{after_entry};
+ghost use Rattle.fields.specs.Slotted.{slot_rules, has_begun, refusal_stays, foreign_aside, begins_with_any};
 
 use crate::slots::Slots;
+use sources::drive::fill;
 use sources::fault::{Fault, Refusal};
+use sources::kind::{Break, Finish, Kind};
+use sources::source::Source;
 
-// Slots that lines fill, or the fault of a line that was refused.
+// Slots that lines fill, or the fault of a line that was refused: the kind of every text of fields.
 #[derive(Drop)]
 pub struct Filling<S> {
     state: Result<S, Fault>,
@@ -19,13 +26,28 @@ impl<S: Slots> Filling<S> {
     {
         Filling { state: Ok(slots) }
     }
+}
 
-    pub fn take(&mut self, line: &str) -> Result<(), Fault>
-    where
-        S: Drop,
-        ensures next { self.new.state ≡ and_then self.old.state (λ s. S.Slots.after s line.now) }
-        ensures verdict { result ≡ verdict_of (result_err self.new.state) }
-    {
+impl<S: Slots + Drop> Kind for Filling<S> {
+    type Closed = S::Record;
+
+    const BREAK: Break = S::BREAK;
+
+    ghost BREAK = { S.BREAK };
+
+    ghost Meaning = { ResultOf S FaultOf };
+
+    ghost means = { λ t. t.state };
+
+    ghost rules = { slot_rules S.entry S.fill S.judged S.BREAK };
+
+    ghost begun = { has_begun };
+
+    ghost foreign = { S.foreign };
+
+    ghost frame = { λ _ _. Unit {0} };
+
+    fn take(&mut self, line: &str) -> Result<(), Fault> {
         // A match, since `and_then` would borrow the line in a closure and say no more.
         let taken = match &mut self.state {
             Ok(slots) => slots.put_line(line),
@@ -37,9 +59,21 @@ impl<S: Slots> Filling<S> {
         taken
     }
 
-    pub fn close(&self) -> Result<S::Record, Fault>
-        ensures { result ≡ and_then self.now.state S.Slots.judged }
-    {
+    ghost breaks = { refl };
+
+    ghost stays = { refusal_stays S.entry S.fill S.judged S.BREAK };
+
+    ghost aside = { foreign_aside S.entry S.fill S.judged S.BREAK S.foreign S.aside };
+
+    ghost begins = { begins_with_any S.entry S.fill S.judged S.BREAK };
+
+    ghost framed = { λ _. tt };
+
+    ghost still = { λ _ _ _ _ _. tt };
+}
+
+impl<S: Slots + Drop> Finish for Filling<S> {
+    fn finish(&mut self) -> Result<S::Record, Fault> {
         self.state.as_ref().map_err(|f| *f)?.judge()
     }
 }
@@ -63,4 +97,19 @@ pub fn put_record<R: Drop>(
             Err(f)
         }
     }
+}
+
+// Reads the text of a source into a record, which is blank after a refusal.
+pub fn read_record<T: Source, S: Slots + Drop>(
+    source: &mut T,
+    record: &mut S::Record,
+) -> Result<(), Refusal>
+where
+    S::Record: Drop,
+    ensures defined { (result, «record».new, T.text source.new) ≡ into S.blank (reading (slot_rules S.entry S.fill S.judged S.BREAK) (Ok S.fresh) (T.text source.old)) }
+    ensures lines { ToldByLastLines S.entry S.fill S.judged S.fresh S.blank S.BREAK (T.text source.old) result «record».new }
+    ensures editions { SameRecordInEditions (slot_rules S.entry S.fill S.judged S.BREAK) has_begun S.foreign (Ok S.fresh) S.blank (T.text source.old) result «record».new }
+{
+    let mut filling = Filling::new(S::new());
+    put_record(fill(source, &mut filling), S::blank_record(), record)
 }

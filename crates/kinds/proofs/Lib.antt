@@ -3,4 +3,3 @@ pub mod Steps
 pub mod Measures
 pub mod Joins
 pub mod Laws
-pub mod StatusLaws

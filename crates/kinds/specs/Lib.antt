@@ -8,4 +8,5 @@ pub mod MeasureLaws
 pub mod Measured
 pub mod Sums
 pub mod StatusText
+pub mod LimitsText
 pub mod Samples

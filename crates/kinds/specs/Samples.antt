@@ -7,10 +7,10 @@ use Rattle.sources.specs.Faults.{fault, refused}
 use Rattle.sources.specs.Editions.{Edition}
 use Rattle.sources.specs.Lines.{lines_of}
 use Rattle.fields.specs.Counted.{text_of}
-use Rattle.fields.specs.Slots.{kept}
+use Rattle.fields.specs.Slots.{kept, after_entry}
 use Rattle.status.specs.declared.record.StatusSlots.{StatusSlots}
-use Rattle.status.specs.Line.{after_status}
-use Rattle.status.specs.Record.{fresh_slots}
+use Rattle.status.specs.Line.{entry_of as entry_of_status}
+use Rattle.status.specs.Record.{fresh_slots, fill_slots}
 use Rattle.kinds.specs.Attribute.{Entry, entry_of}
 use Rattle.kinds.specs.Measure.{fresh, has_begun, is_foreign}
 use Rattle.kinds.specs.Measured.{measured}
@@ -36,7 +36,7 @@ newer =
 
 -- The slots of a status that has one line.
 abbrev pub said : List ℕ → StatusSlots
-said line = kept fresh_slots (after_status fresh_slots line)
+said line = kept fresh_slots (after_entry fill_slots fresh_slots (entry_of_status line))
 
 abbrev pub Samples : Type 0
 Samples =

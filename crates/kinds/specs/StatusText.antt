@@ -10,12 +10,12 @@ use Rattle.fields.specs.LastLines.{into, ToldByLastLines, SameRecordInEditions}
 use Rattle.fields.specs.Slotted.{slot_rules, has_begun}
 use Rattle.status.specs.declared.record.StatusSlots.{StatusSlots}
 use Rattle.status.specs.declared.record.Status.{Status}
-use Rattle.status.specs.Line.{entry_of, after_status, is_foreign}
+use Rattle.status.specs.Line.{entry_of, is_foreign}
 use Rattle.status.specs.Record.{fill_slots, judged_slots, fresh_slots, blank_status}
 
 -- A break refuses a status text.
 abbrev pub status_rules : Rules (Result StatusSlots Fault) Status
-status_rules = slot_rules after_status judged_slots Refuses
+status_rules = slot_rules entry_of fill_slots judged_slots Refuses
 
 -- Before any line.
 abbrev pub fresh : Result StatusSlots Fault

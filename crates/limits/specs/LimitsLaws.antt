@@ -1,16 +1,14 @@
 -- What lines do to the slots, as laws. (The proofs stand here since an implementation of a trait can cite specs/ alone.)
 use Rattle.std.specs.Prelude.{◌≡◌, ℕ, ◌+◌, Bool, true, false, cond, ◌&&◌, ◌||◌, List, [], ◌∷◌, length, is_none, Some, None, Ok, Err, Option, nat_le, nat_lt, refl}
 use Rattle.std.specs.Option.{option_map}
-use Rattle.std.proofs.Common.{ap, arith}
+use Rattle.std.proofs.Common.{arith}
 use Rattle.std.proofs.lemmas.Bool.Decides.{nat_tests}
 use Rattle.sources.specs.declared.reason.Reason.TheVariants.{Short}
 use Rattle.sources.specs.Faults.{fault}
 use Rattle.sources.specs.White.{trim, white_words}
-use Rattle.fields.specs.Slots.{after_entry}
-use Rattle.limits.specs.declared.slots.LimitsSlots.{LimitsSlots}
 use Rattle.limits.specs.Entries.{Entry, entry_of, is_foreign, is_heading, name_length, place_in}
 use Rattle.limits.specs.Words.{word_at}
-use Rattle.limits.specs.Record.{fresh, fill_limits, after_limits}
+use Rattle.limits.specs.Record.{fresh, fill_limits}
 
 -- a heading, or n words with a name of no field
 no_entry : (heading : Bool) (n : ℕ) (place : Option ℕ) (entry : ℕ → Entry) → (heading || (nat_le 3 n && is_none place)) ≡ true
@@ -24,10 +22,6 @@ pub foreign_empty : (line : List ℕ) → is_foreign line ≡ true → entry_of 
 foreign_empty line f =
     let t = trim line in
     no_entry (is_heading t) (length (white_words t)) (place_in t) (λ place. (place + 1, (word_at (name_length t) (white_words t), word_at (name_length t + 1) (white_words t)))) f
-
--- A foreign line changes nothing.
-pub foreign_aside : (s : LimitsSlots) (line : List ℕ) → is_foreign line ≡ true → after_limits s line ≡ Ok s
-foreign_aside s line f = ap (after_entry fill_limits s) (foreign_empty line f)
 
 -- No entry leaves the slots as they were before any line, and one more entry is put before the others.
 pub no_entries : fill_limits [] fresh ≡ fresh

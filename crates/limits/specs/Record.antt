@@ -3,12 +3,12 @@ use Rattle.std.specs.Prelude.{ℕ, zero, suc, ◌+◌, ◌-◌, List, [], ◌∷
 use Rattle.sources.specs.declared.fault.Fault.{Fault}
 use Rattle.sources.specs.Faults.{and_then}
 use Rattle.std.specs.List.{enumerate_from}
-use Rattle.fields.specs.Slots.{Slot, last_of, needed, after_entry}
+use Rattle.fields.specs.Slots.{Slot, last_of, needed}
 use Rattle.limits.specs.declared.limit.LimitValue.TheVariants.{Value}
 use Rattle.limits.specs.declared.limit.Limit.{Limit}
 use Rattle.limits.specs.declared.record.Limits.{Limits}
 use Rattle.limits.specs.declared.slots.LimitsSlots.{LimitsSlots}
-use Rattle.limits.specs.Entries.{Entry, entry_of}
+use Rattle.limits.specs.Entries.{Entry}
 use Rattle.limits.specs.Values.{limit_of}
 
 -- No more than 0.
@@ -51,10 +51,6 @@ fresh = record { slots = replicate 16 None }
 -- The slots, numbered from 1 on, after entries with the last first.
 abbrev pub fill_limits : List Entry → LimitsSlots → LimitsSlots
 fill_limits es s = record { slots = map (λ p. last_of (λ (words : List ℕ × List ℕ). limit_of words.0 words.1) p.0 es p.1) (enumerate_from 1 s.slots) }
-
--- The slots after a line, or what is wrong with it.
-abbrev pub after_limits : LimitsSlots → List ℕ → Result LimitsSlots Fault
-after_limits s line = after_entry fill_limits s (entry_of line)
 
 -- The slot of the field with a number.
 abbrev pub slot : ℕ → LimitsSlots → Slot Limit

@@ -1,6 +1,9 @@
 ghost use Rattle.std.specs.Prelude.{◌≡◌, ◌+◌, ◌<◌, slice_index_or};
 ghost use Rattle.fields.specs.Slots.{needed};
-ghost use Rattle.limits.specs.Record.{fresh, after_limits, judged_limits};
+ghost use Rattle.sources.specs.declared.kind.Break.TheVariants.{Ends};
+ghost use Rattle.limits.specs.Entries.{Entry as EntryOf, entry_of, is_foreign};
+ghost use Rattle.limits.specs.LimitsLaws.{foreign_empty, no_entries, one_entry_more};
+ghost use Rattle.limits.specs.Record.{fresh, fill_limits, judged_limits, blank_limits};
 
 use crate::limit::Limit;
 use crate::line::Setting;
@@ -8,6 +11,7 @@ use crate::record::Limits;
 use fields::slot::{Slot, needed};
 use fields::slots::Slots;
 use sources::fault::Fault;
+use sources::kind::Break;
 
 // What the last line of each limit's name left, in the order of the fields.
 #[derive(Clone, Copy)]
@@ -16,13 +20,6 @@ pub struct LimitsSlots {
 }
 
 impl LimitsSlots {
-    // Slots before any line.
-    pub fn new() -> LimitsSlots
-        ensures { result ≡ fresh }
-    {
-        LimitsSlots { slots: [None; 16] }
-    }
-
     // The limit at a place, judged under the number of its field.
     fn limit(&self, place: usize) -> Result<Limit, Fault>
         requires { place < 16 }
@@ -36,9 +33,31 @@ impl LimitsSlots {
 impl Slots for LimitsSlots {
     type Record = Limits;
 
-    ghost after = { after_limits };
+    const BREAK: Break = Break::Ends;
+
+    ghost BREAK = { Ends };
+
+    ghost Entry = { EntryOf };
+
+    ghost entry = { entry_of };
+
+    ghost fill = { fill_limits };
 
     ghost judged = { judged_limits };
+
+    ghost foreign = { is_foreign };
+
+    ghost fresh = { fresh };
+
+    ghost blank = { blank_limits };
+
+    fn new() -> LimitsSlots {
+        LimitsSlots { slots: [None; 16] }
+    }
+
+    fn blank_record() -> Limits {
+        Limits::blank()
+    }
 
     #[tactic(auto, using(crate::proofs::Entered::slot_set))]
     fn put_line(&mut self, line: &str) -> Result<(), Fault> {
@@ -68,4 +87,10 @@ impl Slots for LimitsSlots {
             max_realtime_timeout: self.limit(15)?,
         })
     }
+
+    ghost none = { no_entries };
+
+    ghost more = { one_entry_more };
+
+    ghost aside = { foreign_empty };
 }

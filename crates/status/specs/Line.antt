@@ -7,10 +7,8 @@ use Rattle.sources.specs.declared.reason.Reason.TheVariants.{Short}
 use Rattle.sources.specs.Faults.{fault}
 use Rattle.sources.specs.Pieces.{case_of, cut_at, up_to, shorn}
 use Rattle.sources.specs.White.{trim}
-use Rattle.fields.specs.Slots.{Entry, after_entry}
-use Rattle.status.specs.declared.record.StatusSlots.{StatusSlots}
+use Rattle.fields.specs.Slots.{Entry}
 use Rattle.status.specs.Names.{field_of}
-use Rattle.status.specs.Record.{fill_slots}
 
 -- The line without its byte 10, and without a byte 13 before that one.
 abbrev pub sheared : List ℕ → List ℕ
@@ -36,10 +34,6 @@ abbrev pub seen_entry : Result (Option (ℕ × Bor (List ℕ))) Fault → Result
 seen_entry (Ok None) = Ok None
 seen_entry (Ok (Some e)) = Ok (Some (e.0, e.1.now))
 seen_entry (Err f) = Err f
-
--- The slots after a line.
-unfoldable pub after_status : StatusSlots → List ℕ → Result StatusSlots Fault
-after_status s line = after_entry fill_slots s (entry_of line)
 
 -- Foreign are empty lines, and lines with a colon whose name is none of ours: those that say nothing.
 abbrev pub aside : Result (Option Entry) Fault → Bool

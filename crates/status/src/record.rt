@@ -1,5 +1,8 @@
-ghost use Rattle.std.specs.Prelude.{◌≡◌, [], ◌∷◌};
-ghost use Rattle.status.specs.Line.{after_status};
+ghost use Rattle.std.specs.Prelude.{◌≡◌, [], ◌∷◌, refl};
+ghost use Rattle.sources.specs.declared.kind.Break.TheVariants.{Refuses};
+ghost use Rattle.fields.specs.Slots.{Entry as EntryOf};
+ghost use Rattle.status.specs.Line.{entry_of, is_foreign};
+ghost use Rattle.status.specs.LineLaws.{foreign_empty};
 ghost use Rattle.status.specs.Record.{fill_slots, judged_slots, fresh_slots, blank_status, SetsEveryField};
 
 use crate::ids::IdsSlots;
@@ -12,6 +15,7 @@ use crate::spaces::SpacesSlots;
 use fields::counted::{Counted, Text};
 use fields::slots::Slots;
 use sources::fault::Fault;
+use sources::kind::Break;
 
 // What /proc/PID/status says of a process, field by field; sizes are in kB. docs/STATUS.md has what each field is.
 #[derive(Clone, Copy, Default)]
@@ -92,12 +96,6 @@ pub struct StatusSlots {
 }
 
 impl StatusSlots {
-    pub fn new() -> StatusSlots
-        ensures { result ≡ fresh_slots }
-    {
-        StatusSlots::default()
-    }
-
     // After a line that sets the field `number`. Each topic matches it against its own: slots of many types stand in no table of functions,
     // and a struct of number and text would put its name before the text in every arm.
     fn next(&mut self, number: u8, text: &str)
@@ -115,11 +113,32 @@ impl StatusSlots {
 impl Slots for StatusSlots {
     type Record = Status;
 
-    ghost after = { after_status };
+    const BREAK: Break = Break::Refuses;
+
+    ghost BREAK = { Refuses };
+
+    ghost Entry = { EntryOf };
+
+    ghost entry = { entry_of };
+
+    ghost fill = { fill_slots };
 
     ghost judged = { judged_slots };
 
-    #[tactic(auto, unfolding(crate::specs::Line::after_status))]
+    ghost foreign = { is_foreign };
+
+    ghost fresh = { fresh_slots };
+
+    ghost blank = { blank_status };
+
+    fn new() -> StatusSlots {
+        StatusSlots::default()
+    }
+
+    fn blank_record() -> Status {
+        Status::blank()
+    }
+
     fn put_line(&mut self, line: &str) -> Result<(), Fault> {
         if let Some((number, value)) = entry(line)? {
             self.next(number, value);
@@ -137,6 +156,12 @@ impl Slots for StatusSlots {
         self.others.judge(&mut status)?;
         Ok(status)
     }
+
+    ghost none = { refl };
+
+    ghost more = { λ _ _. refl };
+
+    ghost aside = { foreign_empty };
 }
 
 impl Status {

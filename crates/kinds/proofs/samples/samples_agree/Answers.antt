@@ -4,12 +4,11 @@ use Rattle.std.specs.Str.{chars}
 use Rattle.sources.specs.Editions.{over, keep, more}
 use Rattle.sources.specs.Lines.{lines_of, text_of, judged, walk, course, leaves, reading}
 use Rattle.sources.specs.Utf8.{well_formed}
-use Rattle.status.specs.Line.{after_status}
 use Rattle.status.specs.Names.{field_of}
 use Rattle.kinds.proofs.samples.samples_agree.Goals as goal
 
 pub returns : goal.returns
-unfolding chars encode lines_of text_of judged walk course leaves reading well_formed after_status field_of
+unfolding chars encode lines_of text_of judged walk course leaves reading well_formed field_of
 returns c = (
   refl,
   refl,
