@@ -1,19 +1,22 @@
 // Replays lists of texts with the answers expected, and prints what differs.
 //
-// The words are names of lists; `measure` or `status` before them says how the lists that follow are read, and without it they are read as measures.
+// The words are names of lists; `measure`, `status` or `limits` before them says how the lists that follow are read, and without it they are read as measures.
 // A line of a list is a text, a tab, and what is expected. Of a measure: `ok MAPPINGS RSS PSS SWAPPSS`, `refused NUMBER LINE`, or the class of error that procfs-core answers.
-// Of a status: `ok` and its fields, in order, or `refused NUMBER LINE FIELD`.
+// Of a status or of limits: `ok` and the fields, in order, or `refused NUMBER LINE FIELD`.
 // In a text `\\` is a backslash, and `\x` with two digits of base 16 is a byte.
 #![tactic(auto)]
 
+mod limits_text;
 mod status_text;
 mod text;
 
 use anyhow::Context;
 use kinds::measure::{Figures, measure};
+use sources::fault::Refusal;
 use sources::held::Held;
 use sources::reason::Reason;
 use std::alloc::{AllocError, Global};
+use std::fmt::Display;
 use std::rt::Files;
 use std::{env, fs};
 use text::unescaped;
@@ -60,6 +63,18 @@ fn measure_answer(heap: Global, text: &[u8]) -> Result<Answer, AllocError> {
     Ok(Answer { line, reason })
 }
 
+// The answer to a text that is read into a record.
+fn record_answer<D: Display + Drop>(heap: Global, read: Result<(), Refusal>, fields: D) -> Result<Answer, AllocError> {
+    let line = match read {
+        Ok(()) => format!(in heap; "ok{fields}")?,
+        Err(refusal) => {
+            let number = refusal.reason.number();
+            format!(in heap; "refused {number} {} {}", refusal.line, refusal.field)?
+        }
+    };
+    Ok(Answer { line, reason: None })
+}
+
 // How the texts of a list are read.
 type Reading = fn(Global, &[u8]) -> Result<Answer, AllocError>;
 
@@ -101,6 +116,7 @@ fn main(rt: HostRuntime) -> anyhow::Result<()> {
         match word.as_str() {
             "measure" => read = measure_answer,
             "status" => read = status_text::answer,
+            "limits" => read = limits_text::answer,
             name => replay(&rt, read, name)?,
         }
     }

@@ -1,5 +1,5 @@
 // The answer to a status text: `ok` and the 61 fields in order, or `refused`.
-use crate::Answer;
+use crate::{Answer, record_answer};
 use fields::counted::Counted;
 use kinds::status_text::read_status;
 use sources::held::Held;
@@ -151,12 +151,6 @@ fn put_others<W: fmt::Write>(f: &mut Formatter<W>, s: &Status) -> fmt::Result {
 
 pub fn answer(heap: Global, text: &[u8]) -> Result<Answer, AllocError> {
     let mut record = Status::blank();
-    let line = match read_status(&mut Held::new(text), &mut record) {
-        Ok(()) => format!(in heap; "ok{}", Fields(&record))?,
-        Err(refusal) => {
-            let number = refusal.reason.number();
-            format!(in heap; "refused {number} {} {}", refusal.line, refusal.field)?
-        }
-    };
-    Ok(Answer { line, reason: None })
+    let read = read_status(&mut Held::new(text), &mut record);
+    record_answer(heap, read, Fields(&record))
 }
