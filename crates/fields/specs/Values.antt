@@ -1,4 +1,4 @@
--- How the value of a field is read.
+-- How the value of a field is read. Lists and masks of processors and memory nodes are after cpuset(7).
 use Rattle.std.specs.Prelude.{ℕ, Bool, List, ℤ, pos, Some, None, Ok, Err, codes, Option, Result, ◌==◌}
 use Rattle.std.specs.List.{slice_split}
 use Rattle.std.specs.Option.{unwrap_or}

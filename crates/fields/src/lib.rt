@@ -2,7 +2,6 @@
 #![tactic(auto)]
 
 pub mod counted;
-pub mod filling;
 mod item;
 mod list;
 pub mod slot;

@@ -2,6 +2,7 @@
 #![tactic(auto)]
 
 pub mod attribute;
+pub mod filling;
 pub mod limits_text;
 pub mod mapping;
 pub mod measure;

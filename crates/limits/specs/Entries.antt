@@ -1,4 +1,4 @@
--- What a line of limits says: the field that it sets, with the words of its soft and its hard limit.
+-- What a line of limits says: the field that it sets, with the words of its soft and its hard limit. After proc(5), /proc/pid/limits.
 use Rattle.std.specs.Prelude.{ℕ, ◌+◌, ◌-◌, Bool, cond, ◌&&◌, ◌||◌, List, length, take, is_some, None, Ok, Err, codes, Option, Result, is_none, nat_le, nat_lt}
 use Rattle.std.specs.Option.{option_map}
 use Rattle.sources.specs.declared.fault.Fault.{Fault}

@@ -46,7 +46,12 @@ impl Display for Fields<'_> {
             l.max_realtime_priority,
             l.max_realtime_timeout,
         ] {
-            write!(f, " {}:{}", Bound(limit.soft_limit), Bound(limit.hard_limit))?;
+            write!(
+                f,
+                " {}:{}",
+                Bound(limit.soft_limit),
+                Bound(limit.hard_limit)
+            )?;
         }
         Ok(())
     }

@@ -64,7 +64,11 @@ fn measure_answer(heap: Global, text: &[u8]) -> Result<Answer, AllocError> {
 }
 
 // The answer to a text that is read into a record.
-fn record_answer<D: Display + Drop>(heap: Global, read: Result<(), Refusal>, fields: D) -> Result<Answer, AllocError> {
+fn record_answer<D: Display + Drop>(
+    heap: Global,
+    read: Result<(), Refusal>,
+    fields: D,
+) -> Result<Answer, AllocError> {
     let line = match read {
         Ok(()) => format!(in heap; "ok{fields}")?,
         Err(refusal) => {

@@ -1,4 +1,4 @@
--- The owner of a process: a slot for each, and the order in which they are judged.
+-- The owner of a process: a slot for each, and the order in which they are judged. What each line holds is after proc(5).
 use Rattle.std.specs.Prelude.{List, Ok, Result}
 use Rattle.sources.specs.declared.fault.Fault.{Fault}
 use Rattle.sources.specs.Faults.{and_then}

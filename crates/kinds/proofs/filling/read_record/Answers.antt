@@ -2,7 +2,7 @@ use Rattle.std.proofs.Common.{Ok, ap, ◌∙◌}
 use Rattle.sources.specs.Lines.{reading}
 use Rattle.fields.specs.Slotted.{slot_rules}
 use Rattle.fields.proofs.Into.{shown}
-use Rattle.fields.proofs.filling.read_record.Goals as goal
+use Rattle.kinds.proofs.filling.read_record.Goals as goal
 
 pub returns : goal.returns
 returns g c =

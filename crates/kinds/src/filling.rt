@@ -8,7 +8,7 @@ ghost use Rattle.fields.specs.LastLines.{told, recorded, into, ToldByLastLines, 
 ghost use Rattle.fields.specs.Slots.{after_entry};
 ghost use Rattle.fields.specs.Slotted.{slot_rules, has_begun, refusal_stays, foreign_aside, begins_with_any};
 
-use crate::slots::Slots;
+use fields::slots::Slots;
 use sources::drive::fill;
 use sources::fault::{Fault, Refusal};
 use sources::kind::{Break, Finish, Kind};
