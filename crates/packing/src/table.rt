@@ -1,0 +1,92 @@
+ghost use Rattle.std.specs.Prelude.{◌≡◌};
+ghost use Rattle.packing.specs.Places.{no_places, Capped, used, spot, free, found, with_place, with_news, without};
+
+use crate::place::{News, Place};
+
+// How many jobs a list can hold.
+pub const ROOM: usize = 64;
+
+// The places, each free or taken: a plain table, which keeps no rule of its own.
+#[derive(Drop)]
+pub struct Table {
+    pub places: [Option<Place>; ROOM],
+}
+
+impl Table {
+    pub fn new() -> Table
+        ensures { result.places ≡ no_places }
+    {
+        Table {
+            places: [None; ROOM],
+        }
+    }
+
+    // The sum of the charges.
+    pub fn used(&self) -> u64
+        requires { Capped self.now.places }
+        ensures { result ≡ used self.now.places }
+    {
+        let mut sum = 0;
+        for slot in &self.places {
+            if let Some(place) = slot {
+                sum += place.charge();
+            }
+        }
+        sum
+    }
+
+    // Where a job stands.
+    fn spot(&self, pid: i32) -> Option<usize>
+        ensures { result ≡ spot pid self.now.places }
+    {
+        self.places
+            .iter()
+            .position(|slot| slot.is_some_and(|place| place.pid == pid))
+    }
+
+    // The first place that is free.
+    pub fn free(&self) -> Option<usize>
+        ensures { result ≡ free self.now.places }
+    {
+        self.places.iter().position(|slot| slot.is_none())
+    }
+
+    // What is kept of a job.
+    pub fn find(&self, pid: i32) -> Option<Place>
+        ensures { result ≡ found pid self.now.places }
+    {
+        self.places[self.spot(pid)?]
+    }
+
+    // Takes the first free place for a job, where there is one.
+    #[tactic(auto, unfolding(crate::specs::Places::with_place))]
+    pub fn put(&mut self, place: Place)
+        ensures { self.new.places ≡ with_place place self.old.places }
+    {
+        if let Some(i) = self.free() {
+            self.places[i] = Some(place);
+        }
+    }
+
+    // Lends the record of a job to take news in, where the job is there.
+    #[tactic(auto, unfolding(crate::specs::Places::with_news))]
+    pub fn learn(&mut self, pid: i32, news: News)
+        ensures { self.new.places ≡ with_news pid news self.old.places }
+    {
+        if let Some(i) = self.spot(pid) {
+            if let Some(place) = &mut self.places[i] {
+                place.learn(news);
+            }
+        }
+    }
+
+    // Frees the place of a job, where it is there.
+    #[tactic(auto, unfolding(crate::specs::Places::without))]
+    pub fn clear(&mut self, pid: i32)
+        ensures { self.new.places ≡ without pid self.old.places }
+    {
+        if let Some(i) = self.spot(pid) {
+            self.places[i] = None;
+        }
+    }
+}
