@@ -21,7 +21,7 @@ charge_at None = 0
 charge_at (Some p) = charge_of p
 
 -- The sum of the charges.
-abbrev pub used : List (Option Place) → ℕ
+unfoldable pub used : List (Option Place) → ℕ
 used ps = sum_by charge_at ps
 
 -- No charge passes the cap.
@@ -46,14 +46,14 @@ write None o ps = ps
 write (Some i) o ps = slice_set ps i o
 
 -- Where a job stands, and the first place that is free.
-abbrev pub spot : ℤ → List (Option Place) → Option ℕ
+unfoldable pub spot : ℤ → List (Option Place) → Option ℕ
 spot pid ps = position (is_of pid) ps
 
-abbrev pub free : List (Option Place) → Option ℕ
+unfoldable pub free : List (Option Place) → Option ℕ
 free ps = position is_free ps
 
 -- What is kept of a job.
-abbrev pub found : ℤ → List (Option Place) → Option Place
+unfoldable pub found : ℤ → List (Option Place) → Option Place
 found pid ps = at (spot pid ps) ps
 
 -- The figures of a measure.

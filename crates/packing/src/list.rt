@@ -1,4 +1,5 @@
-ghost use Rattle.std.specs.Prelude.{◌≡◌, ◌≤◌, ◌^◌, is_some};
+ghost use Rattle.std.specs.Prelude.{◌≡◌, Some};
+ghost use Rattle.sources.specs.Faults.{refused as refusal_of};
 ghost use Rattle.packing.specs.Calls.{new_list, charge, admit_refusal, remeasure_refusal, unknown_refusal, admit_of, remeasure_of, release_of, look_of, noted_of, note_in, bounds_in, note_of, bound_of};
 ghost use Rattle.packing.specs.Places.{used, found, with_news};
 
@@ -46,7 +47,7 @@ fn charge(headroom: u64, measure: &Closed) -> u128
 
 // A refusal of the list's own: it is of no line and no field.
 fn refused(reason: Reason) -> Option<Refusal>
-    ensures { result ≡ Rattle.std.specs.Prelude.Some (Rattle.sources.specs.Faults.refused reason 0) }
+    ensures { result ≡ Some (refusal_of reason 0) }
 {
     Some(Refusal::new(reason, 0))
 }
@@ -70,4 +71,57 @@ fn noted(pid: i32, status: &Status) -> Result<News, Refusal>
         threads: status.threads,
         vmrss: status.vmrss,
     }))
+}
+
+// Reads what note keeps of a job.
+#[tactic(auto, unfolding(crate::specs::Calls::note_in))]
+fn read_note<S: Source>(pid: i32, source: &mut S) -> Result<News, Refusal>
+    ensures { (result, S.text source.new) ≡ note_in pid (S.text source.old) }
+{
+    let mut status = Status::blank();
+    read_status(source, &mut status)?;
+    noted(pid, &status)
+}
+
+// Reads what bound keeps of a job.
+#[tactic(auto, unfolding(crate::specs::Calls::bounds_in))]
+fn read_bounds<S: Source>(source: &mut S) -> Result<News, Refusal>
+    ensures { (result, S.text source.new) ≡ bounds_in (S.text source.old) }
+{
+    let mut limits = Limits::blank();
+    read_limits(source, &mut limits)?;
+    Ok(News::Bounded(Bounds {
+        address_space: limits.max_address_space.soft_limit,
+        open_files: limits.max_open_files.soft_limit,
+    }))
+}
+
+impl PackingList {
+    // Whether a measure may be admitted, or why not.
+    #[tactic(auto, unfolding(crate::specs::Calls::admit_refusal, crate::specs::Calls::first))]
+    fn admit_refusal(&self, pid: i32, headroom: u64, measure: &Closed) -> Option<Refusal>
+        ensures { result ≡ admit_refusal pid headroom measure.now self.now }
+    {
+        if pid < 1 {
+            return refused(Reason::Pid);
+        }
+        if self.table.find(pid).is_some() {
+            return refused(Reason::Present);
+        }
+        let charge = charge(headroom, measure);
+        if charge > CAP {
+            return refused(Reason::Heavy);
+        }
+        if self.table.free().is_none() {
+            return refused(Reason::Packed);
+        }
+        let sum = u128::from(self.table.used()) + charge;
+        if sum > u128::from(u64::MAX) {
+            return refused(Reason::Sum);
+        }
+        if sum > u128::from(self.limit) {
+            return refused(Reason::Over);
+        }
+        None
+    }
 }

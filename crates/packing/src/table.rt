@@ -22,6 +22,7 @@ impl Table {
     }
 
     // The sum of the charges.
+    #[tactic(auto, unfolding(crate::specs::Places::used))]
     pub fn used(&self) -> u64
         requires { Capped self.now.places }
         ensures { result ≡ used self.now.places }
@@ -36,6 +37,7 @@ impl Table {
     }
 
     // Where a job stands.
+    #[tactic(auto, unfolding(crate::specs::Places::spot))]
     fn spot(&self, pid: i32) -> Option<usize>
         ensures { result ≡ spot pid self.now.places }
     {
@@ -45,6 +47,7 @@ impl Table {
     }
 
     // The first place that is free.
+    #[tactic(auto, unfolding(crate::specs::Places::free))]
     pub fn free(&self) -> Option<usize>
         ensures { result ≡ free self.now.places }
     {
@@ -52,6 +55,7 @@ impl Table {
     }
 
     // What is kept of a job.
+    #[tactic(auto, unfolding(crate::specs::Places::found, crate::specs::Places::spot))]
     pub fn find(&self, pid: i32) -> Option<Place>
         ensures { result ≡ found pid self.now.places }
     {
@@ -59,7 +63,7 @@ impl Table {
     }
 
     // Takes the first free place for a job, where there is one.
-    #[tactic(auto, unfolding(crate::specs::Places::with_place))]
+    #[tactic(auto, unfolding(crate::specs::Places::with_place, crate::specs::Places::free))]
     pub fn put(&mut self, place: Place)
         ensures { self.new.places ≡ with_place place self.old.places }
     {
@@ -69,7 +73,7 @@ impl Table {
     }
 
     // Lends the record of a job to take news in, where the job is there.
-    #[tactic(auto, unfolding(crate::specs::Places::with_news))]
+    #[tactic(auto, unfolding(crate::specs::Places::with_news, crate::specs::Places::found, crate::specs::Places::spot))]
     pub fn learn(&mut self, pid: i32, news: News)
         ensures { self.new.places ≡ with_news pid news self.old.places }
     {
@@ -81,7 +85,7 @@ impl Table {
     }
 
     // Frees the place of a job, where it is there.
-    #[tactic(auto, unfolding(crate::specs::Places::without))]
+    #[tactic(auto, unfolding(crate::specs::Places::without, crate::specs::Places::spot))]
     pub fn clear(&mut self, pid: i32)
         ensures { self.new.places ≡ without pid self.old.places }
     {
