@@ -25,7 +25,7 @@ unfoldable pub used : List (Option Place) → ℕ
 used ps = sum_by charge_at ps
 
 -- No charge passes the cap.
-abbrev pub Capped : List (Option Place) → Type 0
+unfoldable pub Capped : List (Option Place) → Type 0
 Capped ps = (i : ℕ) → charge_at (get_or ps i None) ≤ 2 ^ 56
 
 -- Whether a place is that of a job.

@@ -124,4 +124,140 @@ impl PackingList {
         }
         None
     }
+    // Whether a job may be charged anew, or why not.
+    #[tactic(auto, unfolding(crate::specs::Calls::remeasure_refusal, crate::specs::Calls::first), using(crate::proofs::Caps::found_le_used, crate::proofs::Caps::found_capped))]
+    fn remeasure_refusal(&self, pid: i32, measure: &Closed) -> Option<Refusal>
+        ensures { result ≡ remeasure_refusal pid measure.now self.now }
+    {
+        if pid < 1 {
+            return refused(Reason::Pid);
+        }
+        let Some(place) = self.table.find(pid) else {
+            return refused(Reason::Unknown);
+        };
+        let charge = charge(place.headroom, measure);
+        if charge > CAP {
+            return refused(Reason::Heavy);
+        }
+        let others = self.table.used() - place.charge();
+        if u128::from(others) + charge > u128::from(u64::MAX) {
+            return refused(Reason::Sum);
+        }
+        None
+    }
+
+    // Why a pid can't be that of a job in the list.
+    #[tactic(auto, unfolding(crate::specs::Calls::unknown_refusal, crate::specs::Calls::first))]
+    fn unknown_refusal(&self, pid: i32) -> Option<Refusal>
+        ensures { result ≡ unknown_refusal pid self.now }
+    {
+        if pid < 1 {
+            return refused(Reason::Pid);
+        }
+        if self.table.find(pid).is_none() {
+            return refused(Reason::Unknown);
+        }
+        None
+    }
+
+    // A list that no job is in.
+    #[tactic(auto, using(crate::proofs::Caps::capped_new))]
+    pub fn new(limit: u64) -> PackingList
+        ensures { result ≡ new_list limit }
+    {
+        PackingList {
+            limit,
+            table: Table::new(),
+        }
+    }
+
+    // The sum of the charges.
+    pub fn used(&self) -> u64
+        ensures { result ≡ used self.now.places }
+    {
+        self.table.used()
+    }
+
+    // Takes a job in, charged for a measure and its headroom.
+    pub fn admit(
+        &mut self,
+        pid: i32,
+        headroom: u64,
+        measure: Closed,
+    ) -> Result<(), (Refusal, Closed)>
+        ensures { (result, self.new) ≡ admit_of pid headroom measure self.old }
+    {
+        if let Some(refusal) = self.admit_refusal(pid, headroom, &measure) {
+            return Err((refusal, measure));
+        }
+        self.table.put(Place {
+            pid,
+            headroom,
+            mappings: measure.mappings(),
+            totals: measure.totals(),
+            noted: None,
+            bounds: None,
+        });
+        Ok(())
+    }
+    // Charges a job anew. It keeps its headroom, and what note and bound kept of it; used may pass the limit.
+    pub fn remeasure(&mut self, pid: i32, measure: Closed) -> Result<(), (Refusal, Closed)>
+        ensures { (result, self.new) ≡ remeasure_of pid measure self.old }
+    {
+        if let Some(refusal) = self.remeasure_refusal(pid, &measure) {
+            return Err((refusal, measure));
+        }
+        self.table.learn(pid, News::of(&measure));
+        Ok(())
+    }
+
+    // Keeps what a status text of a job tells.
+    pub fn note<S: Source>(&mut self, pid: i32, source: &mut S) -> Result<(), Refusal>
+        ensures { (result, self.new, S.text source.new) ≡ note_of pid (S.text source.old) self.old }
+    {
+        if let Some(refusal) = self.unknown_refusal(pid) {
+            return Err(refusal);
+        }
+        let news = read_note(pid, source)?;
+        self.table.learn(pid, news);
+        Ok(())
+    }
+
+    // Keeps what a limits text of a job tells.
+    pub fn bound<S: Source>(&mut self, pid: i32, source: &mut S) -> Result<(), Refusal>
+        ensures { (result, self.new, S.text source.new) ≡ bound_of pid (S.text source.old) self.old }
+    {
+        if let Some(refusal) = self.unknown_refusal(pid) {
+            return Err(refusal);
+        }
+        let news = read_bounds(source)?;
+        self.table.learn(pid, news);
+        Ok(())
+    }
+
+    // Frees the place of a job.
+    #[tactic(auto, using(crate::proofs::Caps::capped_without))]
+    pub fn release(&mut self, pid: i32) -> Result<(), Refusal>
+        ensures { (result, self.new) ≡ release_of pid self.old }
+    {
+        if let Some(refusal) = self.unknown_refusal(pid) {
+            return Err(refusal);
+        }
+        self.table.clear(pid);
+        Ok(())
+    }
+
+    // What is kept of a job, and what it is charged.
+    #[tactic(auto, using(crate::proofs::Caps::found_capped))]
+    pub fn look(&self, pid: i32) -> Result<View, Refusal>
+        ensures { result ≡ look_of pid self.now }
+    {
+        if let Some(refusal) = self.unknown_refusal(pid) {
+            return Err(refusal);
+        }
+        match self.table.find(pid) {
+            Some(place) => Ok(place.view()),
+            None => Err(Refusal::new(Reason::Unknown, 0)),
+        }
+    }
 }

@@ -22,7 +22,7 @@ impl Table {
     }
 
     // The sum of the charges.
-    #[tactic(auto, unfolding(crate::specs::Places::used))]
+    #[tactic(auto, unfolding(crate::specs::Places::used, crate::specs::Places::Capped))]
     pub fn used(&self) -> u64
         requires { Capped self.now.places }
         ensures { result ≡ used self.now.places }
