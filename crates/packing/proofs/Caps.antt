@@ -1,5 +1,5 @@
 -- Charges are capped, and each is a part of what is used.
-use Rattle.std.proofs.Common.{◌≡◌, ◌≤◌, ◌^◌, ◌<◌, ℕ, List, Option, Some, None, ℤ, arith, get_or, length, refl, ap, Bool, true, false, [], ◌∷◌, zero, suc, slice_set}
+use Rattle.std.proofs.Common.{◌≡◌, ◌≤◌, ◌^◌, ℕ, List, Option, Some, None, ℤ, arith, get_or, length, refl, ap, Bool, true, false, [], ◌∷◌, zero, suc, slice_set}
 use Rattle.std.specs.Prelude.{sum_by, nat_lt}
 use Rattle.std.proofs.lemmas.Bool.Decides.{nat_tests}
 use Rattle.std.proofs.lemmas.List.{get_or_past, get_or-replicate}
@@ -93,3 +93,9 @@ bounded_light b (Some p) = refl
 pub capped_news : (pid : ℤ) (n : News) (ps ps' : List (Option Place)) → Light n → Capped ps → ps' ≡ with_news pid n ps → Capped ps'
 unfolding with_news found
 capped_news pid n ps ps' l k e = rw e (capped_write (spot pid ps) (learnt_at n (at (spot pid ps) ps)) ps k (rw (l (at (spot pid ps) ps)) (capped_at (spot pid ps) ps k)))
+
+pub capped_note : (pid : ℤ) (n : Noted) (ps ps' : List (Option Place)) → Capped ps → ps' ≡ with_news pid (news.Noted n) ps → Capped ps'
+capped_note pid n ps ps' k e = capped_news pid (news.Noted n) ps ps' (noted_light n) k e
+
+pub capped_bound : (pid : ℤ) (b : Bounds) (ps ps' : List (Option Place)) → Capped ps → ps' ≡ with_news pid (news.Bounded b) ps → Capped ps'
+capped_bound pid b ps ps' k e = capped_news pid (news.Bounded b) ps ps' (bounded_light b) k e

@@ -1,8 +1,7 @@
 -- What calls that nothing refused have passed.
-use Rattle.std.proofs.Common.{◌≡◌, ◌≤◌, ◌<◌, ◌^◌, ◌+◌, ℕ, Bool, true, false, List, [], ◌∷◌, Option, Some, None, ℤ, arith, refl, not, is_some}
-use Rattle.std.specs.Prelude.{cond, nat_lt, is_none}
+use Rattle.std.proofs.Common.{◌≡◌, ◌≤◌, ◌^◌, ◌+◌, ℕ, Bool, true, false, List, ◌∷◌, Option, Some, None, ℤ, arith, refl, is_some}
+use Rattle.std.specs.Prelude.{is_none}
 use Rattle.std.proofs.lemmas.Bool.Decides.{nat_tests}
-use Rattle.sources.specs.declared.fault.Refusal.{Refusal}
 use Rattle.sources.specs.declared.reason.Reason.{Reason}
 use Rattle.kinds.specs.declared.measure.Closed.{Closed}
 use Rattle.packing.specs.declared.place.Place.{Place}

@@ -1,5 +1,5 @@
 -- The calls of a packing list: what each answers, and what the list is afterwards.
-use Rattle.std.specs.Prelude.{ℕ, ◌+◌, ◌-◌, ◌^◌, Bool, cond, not, ◌&&◌, List, [], ◌∷◌, take, slice_get, is_some, is_none, Some, None, Ok, Err, Option, Result, ℤ, pos, nat_lt, int_lt}
+use Rattle.std.specs.Prelude.{ℕ, ◌+◌, ◌-◌, ◌^◌, Bool, cond, List, [], ◌∷◌, take, slice_get, is_some, is_none, Some, None, Ok, Err, Option, Result, ℤ, pos, nat_lt, int_lt}
 use Rattle.std.specs.Ordering.{int_eq}
 use Rattle.sources.specs.declared.fault.Refusal.{Refusal}
 use Rattle.sources.specs.declared.reason.Reason.{Reason}
@@ -14,10 +14,12 @@ use Rattle.status.specs.States.{state_of}
 use Rattle.limits.specs.declared.record.Limits.{Limits}
 use Rattle.packing.specs.declared.place.Place.{Place}
 use Rattle.packing.specs.declared.place.View.{View}
+use Rattle.packing.specs.declared.place.Noted.{Noted}
+use Rattle.packing.specs.declared.place.Bounds.{Bounds}
 use Rattle.packing.specs.declared.place.News.{News}
 use Rattle.packing.specs.declared.place.News.TheVariants as news
 use Rattle.packing.specs.Packed.{Packing}
-use Rattle.packing.specs.Places.{no_places, charge_at, used, spot, free, found, measured, with_place, with_news, without, view_of}
+use Rattle.packing.specs.Places.{no_places, charge_at, used, free, found, measured, with_place, with_news, without, view_of}
 
 -- A list before any call.
 abbrev pub new_list : ℕ → Packing
@@ -109,45 +111,45 @@ abbrev pub letter_of : Status → Option ℕ
 letter_of s = slice_get (take s.state.len s.state.cells) 0
 
 -- What note keeps of a status: it wants a letter that stands for a state, and then the status of this very job.
-abbrev pub noted_by : ℤ → Status → Option ℕ → Result News Refusal
+abbrev pub noted_by : ℤ → Status → Option ℕ → Result Noted Refusal
 noted_by pid s None = Err (refused reason.State 0)
 noted_by pid s (Some letter) =
     cond (is_none (state_of letter)) (Err (refused reason.State 0))
-    (cond (int_eq s.pid pid) (Ok (news.Noted (record { state = letter; threads = s.threads; vmrss = s.vmrss }))) (Err (refused reason.Pid 0)))
+    (cond (int_eq s.pid pid) (Ok (record { state = letter; threads = s.threads; vmrss = s.vmrss })) (Err (refused reason.Pid 0)))
 
-abbrev pub noted_of : ℤ → Status → Result News Refusal
+abbrev pub noted_of : ℤ → Status → Result Noted Refusal
 noted_of pid s = noted_by pid s (letter_of s)
 
 -- What bound keeps of limits.
-abbrev pub bounds_of : Limits → News
-bounds_of v = news.Bounded (record { address_space = v.max_address_space.soft_limit; open_files = v.max_open_files.soft_limit })
+abbrev pub bounds_of : Limits → Bounds
+bounds_of v = record { address_space = v.max_address_space.soft_limit; open_files = v.max_open_files.soft_limit }
 
 -- What a text tells of a job, and the text that is left.
-abbrev pub told_status : ℤ → Result (Unit {0}) Refusal × Status × Text → Result News Refusal × Text
+abbrev pub told_status : ℤ → Result (Unit {0}) Refusal × Status × Text → Result Noted Refusal × Text
 told_status pid (Ok u, s, left) = (noted_of pid s, left)
 told_status pid (Err f, s, left) = (Err f, left)
 
-unfoldable pub note_in : ℤ → Text → Result News Refusal × Text
+unfoldable pub note_in : ℤ → Text → Result Noted Refusal × Text
 note_in pid t = told_status pid (status_of t)
 
-abbrev pub told_limits : Result (Unit {0}) Refusal × Limits × Text → Result News Refusal × Text
+abbrev pub told_limits : Result (Unit {0}) Refusal × Limits × Text → Result Bounds Refusal × Text
 told_limits (Ok u, v, left) = (Ok (bounds_of v), left)
 told_limits (Err f, v, left) = (Err f, left)
 
-unfoldable pub bounds_in : Text → Result News Refusal × Text
+unfoldable pub bounds_in : Text → Result Bounds Refusal × Text
 bounds_in t = told_limits (limits_of t)
 
 -- The answer, the list and the text left, where a text is heard of a job: nothing is read of a pid that is refused.
-abbrev pub heard : ℤ → Result News Refusal × Text → Packing → Result (Unit {0}) Refusal × Packing × Text
-heard pid (Ok n, left) l = (Ok tt, placing (with_news pid n l.places) l, left)
-heard pid (Err f, left) l = (Err f, l, left)
+abbrev pub heard : {X : Type 0} → (X → News) → ℤ → Result X Refusal × Text → Packing → Result (Unit {0}) Refusal × Packing × Text
+heard {X} as_news pid (Ok x, left) l = (Ok tt, placing (with_news pid (as_news x) l.places) l, left)
+heard {X} as_news pid (Err f, left) l = (Err f, l, left)
 
-abbrev pub hears : Option Refusal → ℤ → Result News Refusal × Text → Text → Packing → Result (Unit {0}) Refusal × Packing × Text
-hears None pid told t l = heard pid told l
-hears (Some f) pid told t l = (Err f, l, t)
+abbrev pub hears : {X : Type 0} → Option Refusal → (X → News) → ℤ → Result X Refusal × Text → Text → Packing → Result (Unit {0}) Refusal × Packing × Text
+hears {X} None as_news pid told t l = heard as_news pid told l
+hears {X} (Some f) as_news pid told t l = (Err f, l, t)
 
 abbrev pub note_of : ℤ → Text → Packing → Result (Unit {0}) Refusal × Packing × Text
-note_of pid t l = hears (unknown_refusal pid l) pid (note_in pid t) t l
+note_of pid t l = hears (unknown_refusal pid l) news.Noted pid (note_in pid t) t l
 
 abbrev pub bound_of : ℤ → Text → Packing → Result (Unit {0}) Refusal × Packing × Text
-bound_of pid t l = hears (unknown_refusal pid l) pid (bounds_in t) t l
+bound_of pid t l = hears (unknown_refusal pid l) news.Bounded pid (bounds_in t) t l

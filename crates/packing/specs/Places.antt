@@ -1,5 +1,5 @@
 -- The places of a packing list: who stands where, and what each is charged.
-use Rattle.std.specs.Prelude.{◌≡◌, ℕ, ◌+◌, ◌≤◌, ◌^◌, Bool, false, List, replicate, get_or, slice_set, sum_by, position, is_none, Option, Some, None, ℤ}
+use Rattle.std.specs.Prelude.{ℕ, ◌+◌, ◌≤◌, ◌^◌, Bool, false, List, replicate, get_or, slice_set, sum_by, position, is_none, Option, Some, None, ℤ}
 use Rattle.std.specs.Ordering.{int_eq}
 use Rattle.kinds.specs.declared.measure.Closed.{Closed}
 use Rattle.packing.specs.declared.place.Place.{Place}

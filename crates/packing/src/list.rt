@@ -53,7 +53,7 @@ fn refused(reason: Reason) -> Option<Refusal>
 }
 
 // What note keeps of the status of a job.
-fn noted(pid: i32, status: &Status) -> Result<News, Refusal>
+fn noted(pid: i32, status: &Status) -> Result<Noted, Refusal>
     ensures { result ≡ noted_of pid status.now }
 {
     let Some(first) = status.state.items().first() else {
@@ -66,16 +66,16 @@ fn noted(pid: i32, status: &Status) -> Result<News, Refusal>
     if status.pid != pid {
         return Err(Refusal::new(Reason::Pid, 0));
     }
-    Ok(News::Noted(Noted {
+    Ok(Noted {
         state: letter,
         threads: status.threads,
         vmrss: status.vmrss,
-    }))
+    })
 }
 
 // Reads what note keeps of a job.
 #[tactic(auto, unfolding(crate::specs::Calls::note_in))]
-fn read_note<S: Source>(pid: i32, source: &mut S) -> Result<News, Refusal>
+fn read_note<S: Source>(pid: i32, source: &mut S) -> Result<Noted, Refusal>
     ensures { (result, S.text source.new) ≡ note_in pid (S.text source.old) }
 {
     let mut status = Status::blank();
@@ -85,15 +85,15 @@ fn read_note<S: Source>(pid: i32, source: &mut S) -> Result<News, Refusal>
 
 // Reads what bound keeps of a job.
 #[tactic(auto, unfolding(crate::specs::Calls::bounds_in))]
-fn read_bounds<S: Source>(source: &mut S) -> Result<News, Refusal>
+fn read_bounds<S: Source>(source: &mut S) -> Result<Bounds, Refusal>
     ensures { (result, S.text source.new) ≡ bounds_in (S.text source.old) }
 {
     let mut limits = Limits::blank();
     read_limits(source, &mut limits)?;
-    Ok(News::Bounded(Bounds {
+    Ok(Bounds {
         address_space: limits.max_address_space.soft_limit,
         open_files: limits.max_open_files.soft_limit,
-    }))
+    })
 }
 
 impl PackingList {
@@ -211,6 +211,7 @@ impl PackingList {
         Ok(())
     }
 
+    #[tactic(auto, using(crate::proofs::Caps::capped_note))]
     // Keeps what a status text of a job tells.
     pub fn note<S: Source>(&mut self, pid: i32, source: &mut S) -> Result<(), Refusal>
         ensures { (result, self.new, S.text source.new) ≡ note_of pid (S.text source.old) self.old }
@@ -218,11 +219,12 @@ impl PackingList {
         if let Some(refusal) = self.unknown_refusal(pid) {
             return Err(refusal);
         }
-        let news = read_note(pid, source)?;
-        self.table.learn(pid, news);
+        let noted = read_note(pid, source)?;
+        self.table.learn(pid, News::Noted(noted));
         Ok(())
     }
 
+    #[tactic(auto, using(crate::proofs::Caps::capped_bound))]
     // Keeps what a limits text of a job tells.
     pub fn bound<S: Source>(&mut self, pid: i32, source: &mut S) -> Result<(), Refusal>
         ensures { (result, self.new, S.text source.new) ≡ bound_of pid (S.text source.old) self.old }
@@ -230,8 +232,8 @@ impl PackingList {
         if let Some(refusal) = self.unknown_refusal(pid) {
             return Err(refusal);
         }
-        let news = read_bounds(source)?;
-        self.table.learn(pid, news);
+        let bounds = read_bounds(source)?;
+        self.table.learn(pid, News::Bounded(bounds));
         Ok(())
     }
 
