@@ -1,0 +1,37 @@
+-- A measure in hand that is charged, or handed back.
+use Rattle.std.proofs.Common.{◌≡◌, ◌∙◌, ap, sym, refl, ℕ, List, Option, Some, None, Ok, Err, Result, get_or, slice_set}
+use Rattle.std.proofs.lemmas.List.{set-set, set-get_or}
+use Rattle.sources.specs.declared.fault.Refusal.{Refusal}
+use Rattle.kinds.specs.declared.measure.Closed.{Closed}
+use Rattle.packing.specs.Packed.{Packing}
+use Rattle.packing.specs.Calls.{handing}
+use Rattle.runs.specs.declared.call.Answer.{Answer}
+use Rattle.runs.specs.declared.call.Answer.TheVariants.{Missing, Done, Handed}
+use Rattle.runs.specs.Run.{Bench, Desk, settled, settled_by, charging}
+
+-- What is taken from the bench and put back leaves it as it was.
+put_back : (b : Bench) (k : ℕ) (o : Option Closed) → o ≡ get_or b k None → slice_set b k o ≡ b
+put_back b k o e = ap (λ x. slice_set b k x) e ∙ set-get_or b k None
+
+by_verdict : (d : Desk) (k : ℕ) (v : Option Refusal) (m : Closed) (new : Packing) → Some m ≡ get_or d.1 k None →
+    settled_by k (handing v m new d.0).0 ((handing v m new d.0).1, slice_set d.1 k None) ≡ settled d k (handing v m new d.0)
+by_verdict d k None m new e = refl
+by_verdict d k (Some f) m new e = ap (λ b. (Handed f m.mappings m.totals, (d.0, b))) (set-set d.1 k None (Some m) ∙ put_back d.1 k (Some m) e)
+
+pub charged : (d : Desk) (k : ℕ) (m : Closed) (call : Closed → Result (Unit {0}) (Refusal × Closed) × Packing) (v : Option Refusal) (new : Packing) (b : Bench) (r : Result (Unit {0}) (Refusal × Closed)) (l : Packing) (a : Answer × Desk) →
+    Some m ≡ get_or d.1 k None → b ≡ slice_set d.1 k None → call m ≡ handing v m new d.0 → (r, l) ≡ call m → a ≡ settled_by k r (l, b) → a ≡ charging d k (get_or d.1 k None) call
+charged d k m call v new b r l a g t h e s =
+    let q : (r, l) ≡ handing v m new d.0 = e ∙ h in
+    s
+    ∙ ap (λ x. settled_by k r (l, x)) t
+    ∙ ap (λ (x : Result (Unit {0}) (Refusal × Closed) × Packing). settled_by k x.0 (x.1, slice_set d.1 k None)) q
+    ∙ by_verdict d k v m new g
+    ∙ ap (settled d k) (sym h)
+    ∙ ap (λ o. charging d k o call) g
+
+pub missed : (d : Desk) (k : ℕ) (call : Closed → Result (Unit {0}) (Refusal × Closed) × Packing) (b : Bench) (l : Packing) →
+    None ≡ get_or d.1 k None → b ≡ slice_set d.1 k None → l ≡ d.0 → (Missing, (l, b)) ≡ charging d k (get_or d.1 k None) call
+missed d k call b l g t e =
+    ap (λ x. (Missing, (x, b))) e
+    ∙ ap (λ x. (Missing, (d.0, x))) (t ∙ put_back d.1 k None g)
+    ∙ ap (λ o. charging d k o call) g
