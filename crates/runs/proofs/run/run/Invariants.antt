@@ -1,0 +1,8 @@
+use Rattle.std.proofs.Common.{◌≡◌, ◌++◌, map}
+use Rattle.std.specs.Vec.Iter.{into_iter_items}
+use Rattle.runs.specs.Run.{textual, answers, answers_of}
+use Rattle.runs.proofs.run.run.Given as goal
+
+-- What was answered, and what is to be answered yet, stay the same together.
+abbrev pub invariant-loop-call : goal.invariant-loop-call
+invariant-loop-call g l = l.answers.items ++ answers (l.desk.list, l.desk.bench.items) (map (textual g.S.Source.text) (into_iter_items l.call-iterator)) ≡ answers_of l.fn.limit (map (textual g.S.Source.text) l.fn.calls.items)
