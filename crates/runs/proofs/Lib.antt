@@ -1,2 +1,5 @@
 pub mod Desks
 pub mod Turns
+pub mod Twins
+pub mod Spots
+pub mod Weights

@@ -1,1 +1,4 @@
 pub mod Run
+pub mod Ledger
+pub mod Newer
+pub mod Joins

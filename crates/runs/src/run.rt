@@ -1,5 +1,8 @@
 ghost use Rattle.std.specs.Prelude.{◌≡◌, IfOk, map};
 ghost use Rattle.runs.specs.Run.{textual, answers_of};
+ghost use Rattle.runs.specs.Ledger.{SumsHold};
+ghost use Rattle.runs.specs.Newer.{SameInEditions};
+ghost use Rattle.runs.specs.Joins.{JoinsAdd};
 
 use crate::call::{Answer, Call};
 use crate::desk::Desk;
@@ -14,6 +17,9 @@ pub fn run<S: Source + Drop>(
     calls: Vec<Call<S>>,
 ) -> Result<Vec<Answer>, AllocError>
     ensures defined { IfOk result (λ v. v.items ≡ answers_of limit (map (textual S.text) calls.items)) }
+    ensures sums { IfOk result (λ v. SumsHold limit (map (textual S.text) calls.items) v.items) }
+    ensures editions { IfOk result (λ v. SameInEditions limit (map (textual S.text) calls.items) v.items) }
+    ensures joins { IfOk result (λ v. JoinsAdd (map (textual S.text) calls.items) v.items) }
 {
     let mut desk = Desk {
         list: PackingList::new(limit),

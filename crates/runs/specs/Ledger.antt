@@ -1,0 +1,74 @@
+-- The sums of a run, told by its calls and answers alone: a ledger of the jobs that are in the list, each with its headroom and the text last charged.
+use Rattle.std.specs.Prelude.{◌≡◌, ℕ, ◌+◌, ◌<◌, ◌≤◌, Bool, true, false, cond, not, List, [], ◌∷◌, ◌++◌, get_or, map, filter, sum_by, count_by, ℤ}
+use Rattle.std.specs.Ordering.{int_eq}
+use Rattle.sources.specs.Lines.{lines_of}
+use Rattle.sources.specs.Texts.{Text}
+use Rattle.kinds.specs.declared.sort.Key.TheVariants.{Pss, SwapPss}
+use Rattle.kinds.specs.Sums.{total}
+use Rattle.runs.specs.declared.call.Call.{Call}
+use Rattle.runs.specs.declared.call.Call.TheVariants.{Measure, Admit, Remeasure, Release, Used}
+use Rattle.runs.specs.declared.call.Answer.{Answer}
+use Rattle.runs.specs.declared.call.Answer.TheVariants.{Done, Total}
+
+pub record Entry : Type 0 where
+  pub pid : ℤ
+  pub headroom : ℕ
+  pub bytes : List ℕ
+
+-- Pss and SwapPss of every mapping in a text.
+abbrev pub weighs : List ℕ → ℕ
+weighs bytes = total Pss (lines_of bytes) + total SwapPss (lines_of bytes)
+
+-- What a job is to be charged.
+abbrev pub owes : Entry → ℕ
+owes e = weighs e.bytes + e.headroom
+
+abbrev pub is_for : ℤ → Entry → Bool
+is_for pid e = int_eq e.pid pid
+
+-- A job is accepted, or its figures are.
+abbrev pub accepted : Answer → Bool
+accepted Done = true
+accepted _ = false
+
+-- The texts measured so far, by the number of their Measure call.
+abbrev pub texts : List (List ℕ) → Call Text → List (List ℕ)
+texts ts (Measure t) = ts ++ t.bytes ∷ []
+texts ts _ = ts
+
+-- Another text is charged to a job.
+abbrev pub recharged : ℤ → List ℕ → Entry → Entry
+recharged pid bytes e = cond (is_for pid e) (record { pid = e.pid; headroom = e.headroom; bytes = bytes }) e
+
+-- The ledger after a call, by its answer: a job is in from an accepted admit to the next accepted release.
+abbrev pub told : List (List ℕ) → List Entry → Call Text → Answer → List Entry
+told ts s (Admit pid headroom k) a = cond (accepted a) (record { pid = pid; headroom = headroom; bytes = get_or ts k [] } ∷ s) s
+told ts s (Remeasure pid k) a = cond (accepted a) (map (recharged pid (get_or ts k [])) s) s
+told ts s (Release pid) a = cond (accepted a) (filter (λ e. not (is_for pid e)) s) s
+told ts s _ a = s
+
+-- What is used is the sum over the jobs that are in.
+abbrev pub Sums : List Entry → Call Text → Answer → Type 0
+Sums s Used a = a ≡ Total (sum_by owes s)
+Sums s _ a = Unit {0}
+
+-- An accepted remeasure.
+abbrev pub Raises : Call Text → Answer → Type 0
+Raises (Remeasure pid k) a = accepted a ≡ true
+Raises _ a = ⊥
+
+-- What holds of a call and its answer, where the ledger was s before and is s' after: no job is in twice, and only an accepted remeasure takes the sum past the limit.
+pub record Holds (limit : ℕ) (s s' : List Entry) (c : Call Text) (a : Answer) : Type 0 where
+  pub sums : Sums s c a
+  pub single : (pid : ℤ) → count_by (is_for pid) s' ≤ 1
+  pub crosses : sum_by owes s ≤ limit → limit < sum_by owes s' → Raises c a
+
+-- It holds of each call of a row.
+abbrev pub HoldsFrom : ℕ → List (List ℕ) → List Entry → List (Call Text) → List Answer → Type 0
+HoldsFrom limit ts s [] [] = Unit {0}
+HoldsFrom limit ts s (c ∷ cs) (a ∷ more) = Holds limit s (told ts s c a) c a × HoldsFrom limit (texts ts c) (told ts s c a) cs more
+HoldsFrom limit ts s _ _ = ⊥
+
+-- The same from a list that is just made: no text is measured, and no job is in.
+abbrev pub SumsHold : ℕ → List (Call Text) → List Answer → Type 0
+SumsHold limit cs rs = HoldsFrom limit [] [] cs rs
