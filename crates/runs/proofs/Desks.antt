@@ -1,12 +1,12 @@
 -- A measure in hand that is charged, or handed back.
-use Rattle.std.proofs.Common.{◌≡◌, ◌∙◌, ap, sym, refl, ℕ, List, Option, Some, None, Ok, Err, Result, get_or, slice_set}
+use Rattle.std.proofs.Common.{◌≡◌, ◌∙◌, ap, sym, refl, ℕ, Option, Some, None, Result, get_or, slice_set}
 use Rattle.std.proofs.lemmas.List.{set-set, set-get_or}
 use Rattle.sources.specs.declared.fault.Refusal.{Refusal}
 use Rattle.kinds.specs.declared.measure.Closed.{Closed}
 use Rattle.packing.specs.Packed.{Packing}
 use Rattle.packing.specs.Calls.{handing}
 use Rattle.runs.specs.declared.call.Answer.{Answer}
-use Rattle.runs.specs.declared.call.Answer.TheVariants.{Missing, Done, Handed}
+use Rattle.runs.specs.declared.call.Answer.TheVariants.{Missing, Handed}
 use Rattle.runs.specs.Run.{Bench, Desk, settled, settled_by, charging}
 
 -- What is taken from the bench and put back leaves it as it was.

@@ -1,10 +1,10 @@
 -- Where a job stands, and what a write of its place changes in a sum.
-use Rattle.std.proofs.Common.{◌≡◌, ◌∙◌, ap, sym, refl, subst, ℕ, zero, suc, ◌+◌, ◌<◌, ◌≤◌, Bool, true, false, not, List, [], ◌∷◌, Option, Some, None, ℤ, get_or, length, slice_set, arith}
-use Rattle.std.specs.Prelude.{cond, sum_by, count_by, position, is_none, is_some, nat_lt}
-use Rattle.std.specs.List.{position_or_len, prefix_len}
+use Rattle.std.proofs.Common.{◌≡◌, ◌∙◌, sym, refl, subst, ℕ, suc, ◌+◌, Bool, true, false, List, [], ◌∷◌, Option, Some, None, ℤ, get_or, length, arith}
+use Rattle.std.specs.Prelude.{cond, sum_by, position, is_none, is_some, nat_lt}
+use Rattle.std.specs.List.{position_or_len}
 use Rattle.std.proofs.lemmas.Bool.Decides.{nat_tests}
 use Rattle.std.proofs.lemmas.List.{get_or_past}
-use Rattle.std.proofs.lemmas.List.Sums.{sum_by-cons, sum_by-set}
+use Rattle.std.proofs.lemmas.List.Sums.{sum_by-set}
 use Rattle.std.proofs.lemmas.List.Quantifiers.{position-Some}
 use Rattle.packing.specs.declared.place.Place.{Place}
 use Rattle.packing.specs.declared.place.News.{News}

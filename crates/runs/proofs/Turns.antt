@@ -1,5 +1,5 @@
 -- A turn of the loop over calls, and its end.
-use Rattle.std.proofs.Common.{◌≡◌, ◌∙◌, ap, sym, refl, ◌++◌, List, [], ◌∷◌, map, append_assoc, append-nil}
+use Rattle.std.proofs.Common.{◌≡◌, ◌∙◌, ap, sym, ◌++◌, List, [], ◌∷◌, map, append_assoc, append-nil}
 use Rattle.sources.specs.Texts.{Text}
 use Rattle.runs.specs.declared.call.Call.{Call}
 use Rattle.runs.specs.declared.call.Answer.{Answer}

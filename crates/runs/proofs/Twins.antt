@@ -1,5 +1,5 @@
 -- Newer editions of the texts leave all answers, line numbers aside.
-use Rattle.std.proofs.Common.{◌≡◌, ◌∙◌, ap, sym, refl, subst, List, [], ◌∷◌, ◌++◌, map, Option, Some, None, Ok, Err, Result, ℤ, ℕ, Bool, true, false}
+use Rattle.std.proofs.Common.{◌≡◌, ◌∙◌, ap, sym, refl, subst, List, [], ◌∷◌, ◌++◌, map, Option, Some, None, Ok, Err, Result, ℤ, true, false}
 use Rattle.sources.specs.declared.fault.Refusal.{Refusal}
 use Rattle.sources.specs.declared.reason.Reason.{Reason}
 use Rattle.sources.specs.declared.kind.Break.TheVariants.{Refuses, Ends}
@@ -29,11 +29,10 @@ use Rattle.packing.specs.Packed.{Packing}
 use Rattle.packing.specs.Places.{with_news}
 use Rattle.packing.specs.Calls.{placing, hears, unknown_refusal, noted_of, told_status, told_limits, note_in, bounds_in}
 use Rattle.runs.specs.declared.call.Call.{Call}
-use Rattle.runs.specs.declared.call.Call.TheVariants.{Measure, Note, Bound}
 use Rattle.runs.specs.declared.call.Answer.{Answer}
 use Rattle.runs.specs.declared.call.Answer.TheVariants.{Refused}
 use Rattle.runs.specs.Run.{Desk, of_measure, kept, of_plain, served, answers}
-use Rattle.runs.specs.Newer.{NewerText, Newer, same, measured as measured_newer, noted, bounded, Newers, bare, plain, SameInEditions}
+use Rattle.runs.specs.Newer.{NewerText, Newer, same, measured as measured_newer, noted, bounded, Newers, bare, plain}
 
 -- refusals that differ by their line
 same-bare : (f g : Refusal) → (f.reason ≡ g.reason) × (f.field ≡ g.field) → bare f ≡ bare g
@@ -74,21 +73,21 @@ same-bounds (Err f) (Err g) left left' e = e
 newer_measure : (t u : Text) → NewerText smaps.is_foreign false t u → Same (measured t) (measured u)
 newer_measure t u n =
     subst (λ b. Same (measured t) (measured (text u.bytes b))) (sym n.ending)
-        (newer smaps.measure_rules smaps.has_begun smaps.is_foreign foreign_aside begins_with_mapping smaps.fresh t u.bytes refl n.edition n.fits)
+    (newer smaps.measure_rules smaps.has_begun smaps.is_foreign foreign_aside begins_with_mapping smaps.fresh t u.bytes refl n.edition n.fits)
 
 newer_note : (pid : ℤ) (t u : Text) → NewerText status.is_foreign true t u → Same (note_in pid t).0 (note_in pid u).0
 unfolding note_in
 newer_note pid t u n =
     same-note pid (reading status_text.status_rules status_text.fresh t).0 (reading status_text.status_rules status_text.fresh u).0 _ _
-        (subst (λ b. Same (reading status_text.status_rules status_text.fresh t).0 (reading status_text.status_rules status_text.fresh (text u.bytes b)).0) (sym n.ending)
-            (newer status_text.status_rules slotted.has_begun status.is_foreign (slotted.foreign_aside status.entry_of fill_slots judged_slots Refuses status.is_foreign status_laws.foreign_empty) (slotted.begins_with_any status.entry_of fill_slots judged_slots Refuses) status_text.fresh t u.bytes refl n.edition n.fits))
+    (subst (λ b. Same (reading status_text.status_rules status_text.fresh t).0 (reading status_text.status_rules status_text.fresh (text u.bytes b)).0) (sym n.ending)
+    (newer status_text.status_rules slotted.has_begun status.is_foreign (slotted.foreign_aside status.entry_of fill_slots judged_slots Refuses status.is_foreign status_laws.foreign_empty) (slotted.begins_with_any status.entry_of fill_slots judged_slots Refuses) status_text.fresh t u.bytes refl n.edition n.fits))
 
 newer_bounds : (t u : Text) → NewerText limits.is_foreign true t u → Same (bounds_in t).0 (bounds_in u).0
 unfolding bounds_in
 newer_bounds t u n =
     same-bounds (reading limits_text.limits_rules (Ok fresh) t).0 (reading limits_text.limits_rules (Ok fresh) u).0 _ _
-        (subst (λ b. Same (reading limits_text.limits_rules (Ok fresh) t).0 (reading limits_text.limits_rules (Ok fresh) (text u.bytes b)).0) (sym n.ending)
-            (newer limits_text.limits_rules slotted.has_begun limits.is_foreign (slotted.foreign_aside limits.entry_of fill_limits judged_limits Ends limits.is_foreign limits_laws.foreign_empty) (slotted.begins_with_any limits.entry_of fill_limits judged_limits Ends) (Ok fresh) t u.bytes refl n.edition n.fits))
+    (subst (λ b. Same (reading limits_text.limits_rules (Ok fresh) t).0 (reading limits_text.limits_rules (Ok fresh) (text u.bytes b)).0) (sym n.ending)
+    (newer limits_text.limits_rules slotted.has_begun limits.is_foreign (slotted.foreign_aside limits.entry_of fill_limits judged_limits Ends limits.is_foreign limits_laws.foreign_empty) (slotted.begins_with_any limits.entry_of fill_limits judged_limits Ends) (Ok fresh) t u.bytes refl n.edition n.fits))
 
 -- One call answers the same and leaves the same.
 newer_served : (d : Desk) (c e : Call Text) → Newer c e → (plain (served d c).0 ≡ plain (served d e).0) × ((served d c).1 ≡ (served d e).1)
@@ -103,7 +102,7 @@ newer_served d c e (bounded pid t u n) =
     let k = same-heard news.Bounded pid d.0 (unknown_refusal pid d.0) (bounds_in t).0 (bounds_in u).0 t u (bounds_in t).1 (bounds_in u).1 (newer_bounds t u n) in
     (k.0, ap (λ (l : Packing). (l, d.1)) k.1)
 
-twins : (d : Desk) (cs ds : List (Call Text)) → Newers cs ds → map plain (answers d cs) ≡ map plain (answers d ds)
+pub twins : (d : Desk) (cs ds : List (Call Text)) → Newers cs ds → map plain (answers d cs) ≡ map plain (answers d ds)
 unfolding answers
 twins d [] [] n = refl
 twins d [] (e ∷ ds) n = absurd n

@@ -1,11 +1,11 @@
 -- Sums over the ledger and over the places.
-use Rattle.std.proofs.Common.{◌≡◌, ◌∙◌, ap, sym, refl, subst, ℕ, ◌+◌, ◌≤◌, Bool, true, false, not, List, [], ◌∷◌, map, Option, Some, None, ℤ, arith}
+use Rattle.std.proofs.Common.{◌≡◌, ◌∙◌, ap, sym, refl, ℕ, ◌+◌, ◌≤◌, Bool, true, false, not, List, [], ◌∷◌, map, Option, Some, None, ℤ, arith}
 use Rattle.std.specs.Prelude.{cond, sum_by, count_by, filter, is_some}
 use Rattle.std.specs.Ordering.{int_eq}
 use Rattle.std.proofs.lemmas.List.Sums.{sum_by-cons}
 use Rattle.packing.specs.declared.place.Place.{Place}
 use Rattle.packing.specs.Places.{charge_at, used, is_of}
-use Rattle.runs.specs.Ledger.{Entry, weighs, owes, is_for, recharged}
+use Rattle.runs.specs.Ledger.{Entry, weighs, is_for, recharged}
 use Rattle.runs.proofs.Spots.{first}
 
 -- What counts of a job: of its pid, its headroom and what its text weighs.
@@ -128,14 +128,16 @@ one_place q w (Some p ∷ ps) h = go (one_place q w ps) (int_eq p.pid q) refl
         let k : place_by (only q w) (Some p) ≡ place_by w (Some p) = rw t refl in
         let r = no_place q w ps (omega (arith, a, j, h)) in
         let c = sum_by-cons (place_by (only q w)) (Some p) ps in
-        rw t (omega (arith, c, k, r))
+        let s : sum_by (place_by (only q w)) (Some p ∷ ps) ≡ place_by w (Some p) = omega (arith, c, k, r) in
+        s ∙ ap (λ (b : Bool). place_by w (cond b (Some p) (first (is_of q) ps))) (sym t)
     go ih false t =
         let a = count-more q (Some p) ps in
         let j : once q (Some p) ≡ 0 = rw t refl in
         let k : place_by (only q w) (Some p) ≡ 0 = rw t refl in
         let r = ih (omega (arith, a, j, h)) in
         let c = sum_by-cons (place_by (only q w)) (Some p) ps in
-        rw t (omega (arith, c, k, r))
+        let s : sum_by (place_by (only q w)) (Some p ∷ ps) ≡ place_by w (first (is_of q) ps) = omega (arith, c, k, r) in
+        s ∙ ap (λ (b : Bool). place_by w (cond b (Some p) (first (is_of q) ps))) (sym t)
 
 -- Who is not found stands nowhere.
 pub absent-nowhere : (q : ℤ) (ps : List (Option Place)) → is_some (first (is_of q) ps) ≡ false → count_by (is_of q) ps ≡ 0

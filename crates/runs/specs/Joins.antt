@@ -1,5 +1,5 @@
 -- Measures of two texts and of their join, wherever they stand in a run.
-use Rattle.std.specs.Prelude.{◌≡◌, ℕ, Bool, true, false, List, ◌++◌, get_or}
+use Rattle.std.specs.Prelude.{◌≡◌, ℕ, true, false, List, ◌++◌, get_or}
 use Rattle.sources.specs.Texts.{Text, text}
 use Rattle.kinds.specs.declared.measure.Closed.{Closed}
 use Rattle.kinds.specs.Sums.{Keeps, both, whole}

@@ -10,7 +10,7 @@ use Rattle.limits.specs.Entries as limits
 use Rattle.runs.specs.declared.call.Call.{Call}
 use Rattle.runs.specs.declared.call.Call.TheVariants.{Measure, Note, Bound}
 use Rattle.runs.specs.declared.call.Answer.{Answer}
-use Rattle.runs.specs.declared.call.Answer.TheVariants.{Missing, Made, Done, Refused, Handed, Seen, Total}
+use Rattle.runs.specs.declared.call.Answer.TheVariants.{Refused, Handed}
 use Rattle.runs.specs.Run.{answers_of}
 
 -- The second text is a newer edition of the first, of a kind that has these foreign lines and has begun or not: it keeps the ending and the cap.

@@ -1,5 +1,5 @@
 -- What a row of calls answers: the calls of the list, one after the other, with the measures in hand beside it.
-use Rattle.std.specs.Prelude.{ℕ, List, [], ◌∷◌, ◌++◌, get_or, slice_set, Some, None, Ok, Err, Option, Result, ℤ}
+use Rattle.std.specs.Prelude.{ℕ, List, [], ◌∷◌, ◌++◌, get_or, slice_set, Some, None, Ok, Err, Option, Result}
 use Rattle.sources.specs.declared.fault.Refusal.{Refusal}
 use Rattle.sources.specs.Texts.{Text}
 use Rattle.kinds.specs.declared.measure.Closed.{Closed}
