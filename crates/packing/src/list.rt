@@ -165,10 +165,8 @@ impl PackingList {
     pub fn new(limit: u64) -> PackingList
         ensures { result ≡ new_list limit }
     {
-        PackingList {
-            limit,
-            table: Table::new(),
-        }
+        let table = Table::new();
+        PackingList { limit, table }
     }
 
     // The sum of the charges.
