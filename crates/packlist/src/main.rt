@@ -13,7 +13,7 @@ use files::{calls, read_texts};
 use report::{Room, Told, Words};
 use runs::call::Answer;
 use runs::run::run;
-use script::{Fault, Mistake, Script, parse};
+use script::{Fault, Script, parse};
 use std::io::Read;
 use std::process::ExitCode;
 use std::rt::Files;
@@ -76,11 +76,7 @@ fn main(rt: HostRuntime) -> anyhow::Result<ExitCode> {
     let text = match read_script(&rt, path) {
         Ok(text) => text,
         Err(error) => {
-            let fault = Fault {
-                line: None,
-                mistake: Mistake::Unread { path, error },
-            };
-            print_fault(&rt, name, &fault)?;
+            eprintln!(rt; "{name} can't be read: {error}")?;
             return Ok(ExitCode::FAILURE);
         }
     };

@@ -1,4 +1,7 @@
 // The lines that are printed.
+ghost use Rattle.std.specs.Prelude.{Some};
+ghost use Rattle.packlist.specs.Report.{room_text, totals_text, refusal_text, limit_text, kilobytes_text, status_text, bounds_text, view_text, answer_text};
+
 use kinds::measure::Figures;
 use limits::limit::LimitValue;
 use packing::place::{Bounds, Noted, View};
@@ -31,6 +34,8 @@ pub struct Room {
 }
 
 impl Display for Room {
+    ghost output = { λ r. Some (room_text r.limit r.used) };
+
     fn fmt<W: fmt::Write>(&self, f: &mut Formatter<W>) -> fmt::Result {
         let Room { limit, used } = *self;
         if used <= limit {
@@ -45,6 +50,8 @@ impl Display for Room {
 struct Totals(u32, Figures);
 
 impl Display for Totals {
+    ghost output = { λ t. Some (totals_text t.0 t.1) };
+
     fn fmt<W: fmt::Write>(&self, f: &mut Formatter<W>) -> fmt::Result {
         let Totals(mappings, Figures { rss, pss, swap_pss }) = *self;
         write!(
@@ -59,6 +66,8 @@ impl Display for Totals {
 struct Refused(Refusal);
 
 impl Display for Refused {
+    ghost output = { λ r. Some (refusal_text r.0) };
+
     fn fmt<W: fmt::Write>(&self, f: &mut Formatter<W>) -> fmt::Result {
         let Refusal {
             reason,
@@ -80,10 +89,27 @@ impl Display for Refused {
 struct Limit(LimitValue);
 
 impl Display for Limit {
+    ghost output = { λ l. Some (limit_text l.0) };
+
     fn fmt<W: fmt::Write>(&self, f: &mut Formatter<W>) -> fmt::Result {
         match self.0 {
             LimitValue::Unlimited => f.write_str("unlimited"),
             LimitValue::Value(n) => write!(f, "{n}"),
+        }
+    }
+}
+
+// A figure in kB, if there is one.
+#[derive(Clone, Copy)]
+struct Kilobytes(Option<u64>);
+
+impl Display for Kilobytes {
+    ghost output = { λ k. Some (kilobytes_text k.0) };
+
+    fn fmt<W: fmt::Write>(&self, f: &mut Formatter<W>) -> fmt::Result {
+        match self.0 {
+            Some(n) => write!(f, "{n} kB"),
+            None => f.write_str("-"),
         }
     }
 }
@@ -93,14 +119,18 @@ impl Display for Limit {
 struct Status(Option<Noted>);
 
 impl Display for Status {
+    ghost output = { λ s. Some (status_text s.0) };
+
     fn fmt<W: fmt::Write>(&self, f: &mut Formatter<W>) -> fmt::Result {
-        let Some(noted) = self.0 else {
-            return f.write_str("state - threads - vmrss -");
-        };
-        write!(f, "state {} threads {}", noted.state, noted.threads)?;
-        match noted.vmrss {
-            Some(vmrss) => write!(f, " vmrss {vmrss} kB"),
-            None => f.write_str(" vmrss -"),
+        match self.0 {
+            Some(noted) => write!(
+                f,
+                "state {} threads {} vmrss {}",
+                noted.state,
+                noted.threads,
+                Kilobytes(noted.vmrss)
+            ),
+            None => f.write_str("state - threads - vmrss -"),
         }
     }
 }
@@ -110,6 +140,8 @@ impl Display for Status {
 struct Limits(Option<Bounds>);
 
 impl Display for Limits {
+    ghost output = { λ l. Some (bounds_text l.0) };
+
     fn fmt<W: fmt::Write>(&self, f: &mut Formatter<W>) -> fmt::Result {
         match self.0 {
             Some(bounds) => write!(
@@ -127,6 +159,8 @@ impl Display for Limits {
 struct Seen(View);
 
 impl Display for Seen {
+    ghost output = { λ s. Some (view_text s.0) };
+
     fn fmt<W: fmt::Write>(&self, f: &mut Formatter<W>) -> fmt::Result {
         let view = self.0;
         write!(
@@ -146,6 +180,8 @@ impl Display for Seen {
 pub struct Told(pub Answer);
 
 impl Display for Told {
+    ghost output = { λ t. Some (answer_text t.0) };
+
     fn fmt<W: fmt::Write>(&self, f: &mut Formatter<W>) -> fmt::Result {
         match self.0 {
             Answer::Missing => f.write_str("no such measure in hand"),
