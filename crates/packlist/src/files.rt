@@ -1,7 +1,7 @@
 // The files that a script names, and the calls with their texts.
-ghost use Rattle.std.specs.Prelude.{◌≡◌, IfOk};
+ghost use Rattle.std.specs.Prelude.{◌≡◌, IfOk, length, map, vec_len};
 ghost use Rattle.runs.specs.Run.{textual};
-ghost use Rattle.packlist.specs.Files.{text_in};
+ghost use Rattle.packlist.specs.Files.{text_in, call_with, calls_of};
 
 use crate::input::{Form, Input};
 use crate::script::{Fault, Line, Mistake, TextFile, at_line};
@@ -53,7 +53,9 @@ fn read_text<'a>(
 pub fn read_texts<'a>(
     rt: &(impl Files + AllocGlobal),
     lines: &[Line<'a>],
-) -> Result<Vec<Vec<u8>>, Fault<'a>> {
+) -> Result<Vec<Vec<u8>>, Fault<'a>>
+    ensures { IfOk result (λ v. vec_len v ≡ length lines.now) }
+{
     let mut texts = Vec::new(rt.alloc());
     for line in lines {
         texts.push(at_line(line.number, read_text(rt, &line.call))?)?;
@@ -72,7 +74,7 @@ fn with_text<'a, 'b>(
     call: &Call<TextFile<'a>>,
     bytes: &'b [u8],
 ) -> Result<Call<Input<'b>>, Mistake<'a>>
-    ensures { IfOk result (λ c. textual ⟦<Input<'b> as Source>⟧.text c ≡ textual (λ f. text_in f.form bytes.now) call.now) }
+    ensures { IfOk result (λ c. textual ⟦<Input<'b> as Source>⟧.text c ≡ call_with bytes.now call.now) }
 {
     Ok(match call {
         Call::Measure { text } => Call::Measure {
@@ -110,7 +112,9 @@ pub fn calls<'a, 'b>(
     alloc: Global,
     lines: &[Line<'a>],
     texts: &'b [Vec<u8>],
-) -> Result<Vec<Call<Input<'b>>>, Fault<'a>> {
+) -> Result<Vec<Call<Input<'b>>>, Fault<'a>>
+    ensures { IfOk result (λ v. map (textual ⟦<Input<'b> as Source>⟧.text) v.items ≡ calls_of (λ l b. call_with b.items l.call) lines.now texts.now) }
+{
     let mut calls = Vec::new(alloc);
     for (line, text) in lines.iter().zip(texts) {
         calls.push(at_line(line.number, with_text(&line.call, text.as_slice()))?)?;

@@ -8,12 +8,17 @@ mod input;
 mod report;
 mod script;
 
+ghost use Rattle.std.specs.Prelude.{◌≡◌, ◌*◌, length, IfOk, vec_len};
+ghost use Rattle.runs.specs.Run.{answers_of};
+ghost use Rattle.packlist.specs.Files.{call_with, calls_of};
+
 use anyhow::{bail, ensure};
 use files::{calls, read_texts};
 use report::{Room, Told, Words};
 use runs::call::Answer;
 use runs::run::run;
 use script::{Fault, Script, parse};
+use std::alloc::Global;
 use std::io::Read;
 use std::process::ExitCode;
 use std::rt::Files;
@@ -28,15 +33,28 @@ fn read_script(rt: &(impl Files + Input + AllocGlobal), path: &str) -> io::Resul
     Ok(bytes)
 }
 
-// A script, and what its run answers: of each line its call, and then what is used. Nothing is run before all is read.
+// What a script is answered where its lines have these texts: of each line its call, and then what is used.
+fn run_script<'a>(
+    alloc: Global,
+    script: &Script<'a>,
+    texts: &[Vec<u8>],
+) -> Result<Vec<Answer>, Fault<'a>>
+    requires { length texts.now ≡ vec_len script.now.lines }
+    ensures defined { IfOk result (λ v. v.items ≡ answers_of script.now.limit.bytes (calls_of (λ l b. call_with b.items l.call) script.now.lines.items texts.now)) }
+    ensures twice { IfOk result (λ v. vec_len v ≡ 2 * vec_len script.now.lines) }
+{
+    let calls = calls(alloc, script.lines.as_slice(), texts)?;
+    Ok(run(alloc, script.limit.bytes, calls)?)
+}
+
+// A script with its answers. All files are read before anything is run.
 fn answered<'a>(
     rt: &(impl Files + AllocGlobal),
     text: &'a [u8],
 ) -> Result<(Script<'a>, Vec<Answer>), Fault<'a>> {
     let script = parse(rt.alloc(), text)?;
     let texts = read_texts(rt, script.lines.as_slice())?;
-    let calls = calls(rt.alloc(), script.lines.as_slice(), texts.as_slice())?;
-    let answers = run(rt.alloc(), script.limit.bytes, calls)?;
+    let answers = run_script(rt.alloc(), &script, texts.as_slice())?;
     Ok((script, answers))
 }
 

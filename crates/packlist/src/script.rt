@@ -11,6 +11,8 @@
 //     used
 //
 // The first call is the limit, and no other is. FILE holds smaps, status or limits text; after the word `recording` it holds a recording of one. NAME is the latest measure of that name above.
+ghost use Rattle.std.specs.Prelude.{◌≡◌, MatchResult};
+
 use crate::input::Form;
 use runs::call::Call;
 use std::alloc::{AllocError, AllocFailed, Global};
@@ -117,7 +119,9 @@ impl<T: Drop> From<AllocFailed<T>> for Fault<'_> {
 }
 
 // A mistake gains the number of its line.
-pub fn at_line<'a, T>(line: u64, outcome: Result<T, Mistake<'a>>) -> Result<T, Fault<'a>> {
+pub fn at_line<'a, T>(line: u64, outcome: Result<T, Mistake<'a>>) -> Result<T, Fault<'a>>
+    ensures { MatchResult result (λ v. outcome.entry ≡ Ok v) (λ f. (f.line ≡ Some line) × (outcome.entry ≡ Err f.mistake)) }
+{
     outcome.map_err(|mistake| Fault {
         line: Some(line),
         mistake,
