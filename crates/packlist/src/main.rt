@@ -1,0 +1,111 @@
+// Runs a script of calls on one packing list, and prints what each is answered, and what is then used and left.
+//
+// The script is the file that the first argument names, or standard input where there is no argument or it is `-`. script.rt says what its lines are.
+#![tactic(auto)]
+
+mod files;
+mod input;
+mod report;
+mod script;
+
+ghost use Rattle.std.specs.Prelude.{◌≡◌, ◌*◌, length, IfOk, vec_len};
+ghost use Rattle.runs.specs.Run.{answers_of};
+ghost use Rattle.packlist.specs.Files.{call_with, calls_of};
+
+use anyhow::{bail, ensure};
+use files::{calls, read_texts};
+use report::{Room, Told, Words};
+use runs::call::Answer;
+use runs::run::run;
+use script::{Fault, Script, parse};
+use std::alloc::Global;
+use std::io::Read;
+use std::process::ExitCode;
+use std::rt::Files;
+use std::{env, fs, io};
+
+fn read_script(rt: &(impl Files + Input + AllocGlobal), path: &str) -> io::Result<Vec<u8>> {
+    if path != "-" {
+        return fs::read(rt, path);
+    }
+    let mut bytes = Vec::new(rt.alloc());
+    rt.reader().read_to_end(&mut bytes)?;
+    Ok(bytes)
+}
+
+// What a script is answered where its lines have these texts: of each line its call, and then what is used.
+fn run_script<'a>(
+    alloc: Global,
+    script: &Script<'a>,
+    texts: &[Vec<u8>],
+) -> Result<Vec<Answer>, Fault<'a>>
+    requires { length texts.now ≡ vec_len script.now.lines }
+    ensures defined { IfOk result (λ v. v.items ≡ answers_of script.now.limit.bytes (calls_of (λ l b. call_with b.items l.call) script.now.lines.items texts.now)) }
+    ensures twice { IfOk result (λ v. vec_len v ≡ 2 * vec_len script.now.lines) }
+{
+    let calls = calls(alloc, script.lines.as_slice(), texts)?;
+    Ok(run(alloc, script.limit.bytes, calls)?)
+}
+
+// A script with its answers. All files are read before anything is run.
+fn answered<'a>(
+    rt: &(impl Files + AllocGlobal),
+    text: &'a [u8],
+) -> Result<(Script<'a>, Vec<Answer>), Fault<'a>> {
+    let script = parse(rt.alloc(), text)?;
+    let texts = read_texts(rt, script.lines.as_slice())?;
+    let answers = run_script(rt.alloc(), &script, texts.as_slice())?;
+    Ok((script, answers))
+}
+
+fn print_answers(rt: &impl Print, script: &Script<'_>, answers: &[Answer]) -> anyhow::Result<()> {
+    let limit = script.limit.bytes;
+    let none = Room { limit, used: 0 };
+    println!(rt; "{}: ok; {none}", Words(script.limit.words.as_slice()))?;
+    for (line, pair) in script.lines.iter().zip(answers.chunks(2)) {
+        let [answer, Answer::Total(used)] = pair else {
+            bail!("a call was not answered");
+        };
+        let room = Room { limit, used: *used };
+        println!(rt;
+            "{}: {}; {room}",
+            Words(line.words.as_slice()),
+            Told(*answer)
+        )?;
+    }
+    Ok(())
+}
+
+// Prints what is wrong with a script of this name.
+fn print_fault(rt: &impl Eprint, name: &str, fault: &Fault<'_>) -> io::Result<()> {
+    let mistake = &fault.mistake;
+    match fault.line {
+        Some(line) => eprintln!(rt; "{name}:{line}: {mistake}"),
+        None => eprintln!(rt; "{name}: {mistake}"),
+    }
+}
+
+fn main(rt: HostRuntime) -> anyhow::Result<ExitCode> {
+    let mut args = env::args(&rt)?.skip(1);
+    let path = args.next();
+    ensure!(args.next().is_none(), "packlist takes one script");
+    let path = path.as_ref().map_or("-", |path| path.as_str());
+    let name = if path == "-" { "standard input" } else { path };
+    let text = match read_script(&rt, path) {
+        Ok(text) => text,
+        Err(error) => {
+            eprintln!(rt; "{name} can't be read: {error}")?;
+            return Ok(ExitCode::FAILURE);
+        }
+    };
+    match answered(&rt, text.as_slice()) {
+        Ok((script, answers)) => {
+            print_answers(&rt, &script, answers.as_slice())?;
+            Ok(ExitCode::SUCCESS)
+        }
+        Err(fault) => {
+            print_fault(&rt, name, &fault)?;
+            Ok(ExitCode::FAILURE)
+        }
+    }
+}

@@ -1,0 +1,280 @@
+// A script: a call a line, its words between ASCII white space. A blank line is skipped, and so is one whose first word begins with `#`.
+//
+//     limit BYTES
+//     measure NAME FILE
+//     admit PID HEADROOM NAME
+//     remeasure PID NAME
+//     note PID FILE
+//     bound PID FILE
+//     release PID
+//     look PID
+//     used
+//
+// The first call is the limit, and no other is. FILE holds smaps, status or limits text; after the word `recording` it holds a recording of one. NAME is the latest measure of that name above.
+ghost use Rattle.std.specs.Prelude.{◌≡◌, MatchResult};
+
+use crate::input::Form;
+use runs::call::Call;
+use std::alloc::{AllocError, AllocFailed, Global};
+use std::error::Error;
+use std::{fmt, io};
+
+// The file of a text.
+#[derive(Clone, Copy, Debug)]
+pub struct TextFile<'a> {
+    pub form: Form,
+    pub path: &'a str,
+}
+
+// A line that asks for a call of the list, which names the files of its texts.
+#[derive(Drop)]
+pub struct Line<'a> {
+    pub number: u64,
+    pub words: Vec<&'a str>,
+    pub call: Call<TextFile<'a>>,
+}
+
+// The line that gives the limit.
+#[derive(Drop)]
+pub struct Limit<'a> {
+    pub words: Vec<&'a str>,
+    pub bytes: u64,
+}
+
+#[derive(Drop)]
+pub struct Script<'a> {
+    pub limit: Limit<'a>,
+    pub lines: Vec<Line<'a>>,
+}
+
+// What is wrong with a line.
+#[derive(Debug, Drop)]
+pub enum Mistake<'a> {
+    Utf8,
+    Unknown(&'a str),
+    // How the call is written.
+    Usage(&'static str),
+    Pid(&'a str),
+    Bytes(&'a str),
+    NoLimit,
+    SecondLimit,
+    NoMeasure(&'a str),
+    Unread { path: &'a str, error: io::Error },
+    Spool(&'a str),
+    Memory,
+}
+
+// Why a script is not run: a mistake, with the number of its line, if it is of one.
+#[derive(Debug, Drop)]
+pub struct Fault<'a> {
+    pub line: Option<u64>,
+    pub mistake: Mistake<'a>,
+}
+
+impl fmt::Display for Mistake<'_> {
+    fn fmt<W: fmt::Write>(&self, f: &mut fmt::Formatter<W>) -> fmt::Result {
+        match self {
+            Mistake::Utf8 => f.write_str("not UTF-8"),
+            Mistake::Unknown(word) => write!(f, "no call is named `{word}`"),
+            Mistake::Usage(form) => write!(f, "the call is written `{form}`"),
+            Mistake::Pid(word) => write!(f, "the pid `{word}` is no number of 32 bits"),
+            Mistake::Bytes(word) => write!(f, "`{word}` is no number of bytes that has 64 bits"),
+            Mistake::NoLimit => f.write_str("no limit: the first call must be `limit BYTES`"),
+            Mistake::SecondLimit => f.write_str("a second limit: only the first call is one"),
+            Mistake::NoMeasure(name) => write!(f, "no measure above is named `{name}`"),
+            Mistake::Unread { path, error } => write!(f, "`{path}` can't be read: {error}"),
+            Mistake::Spool(path) => write!(f, "`{path}` is no well-made recording"),
+            Mistake::Memory => f.write_str("out of memory"),
+        }
+    }
+}
+
+impl Error for Mistake<'_> {}
+
+impl From<AllocError> for Mistake<'_> {
+    fn from(_error: AllocError) -> Self {
+        Mistake::Memory
+    }
+}
+
+impl<T: Drop> From<AllocFailed<T>> for Mistake<'_> {
+    fn from(_error: AllocFailed<T>) -> Self {
+        Mistake::Memory
+    }
+}
+
+impl From<AllocError> for Fault<'_> {
+    fn from(error: AllocError) -> Self {
+        Fault {
+            line: None,
+            mistake: Mistake::from(error),
+        }
+    }
+}
+
+impl<T: Drop> From<AllocFailed<T>> for Fault<'_> {
+    fn from(error: AllocFailed<T>) -> Self {
+        Fault::from(AllocError::from(error))
+    }
+}
+
+// A mistake gains the number of its line.
+pub fn at_line<'a, T>(line: u64, outcome: Result<T, Mistake<'a>>) -> Result<T, Fault<'a>>
+    ensures { MatchResult result (λ v. outcome.entry ≡ Ok v) (λ f. (f.line ≡ Some line) × (outcome.entry ≡ Err f.mistake)) }
+{
+    outcome.map_err(|mistake| Fault {
+        line: Some(line),
+        mistake,
+    })
+}
+
+// What is wrong with a call that has not the words it needs.
+fn misuse<'a>(name: &'a str) -> Mistake<'a> {
+    match name {
+        "limit" => Mistake::Usage("limit BYTES"),
+        "measure" => Mistake::Usage("measure NAME [recording] FILE"),
+        "admit" => Mistake::Usage("admit PID HEADROOM NAME"),
+        "remeasure" => Mistake::Usage("remeasure PID NAME"),
+        "note" => Mistake::Usage("note PID [recording] FILE"),
+        "bound" => Mistake::Usage("bound PID [recording] FILE"),
+        "release" => Mistake::Usage("release PID"),
+        "look" => Mistake::Usage("look PID"),
+        "used" => Mistake::Usage("used"),
+        _ => Mistake::Unknown(name),
+    }
+}
+
+fn read_bytes<'a>(word: &'a str) -> Result<u64, Mistake<'a>> {
+    word.parse().map_err(|_| Mistake::Bytes(word))
+}
+
+fn read_pid<'a>(word: &'a str) -> Result<i32, Mistake<'a>> {
+    word.parse().map_err(|_| Mistake::Pid(word))
+}
+
+fn text_file<'a>(words: &[&'a str]) -> Option<TextFile<'a>> {
+    match words {
+        [path] => Some(TextFile {
+            form: Form::Plain,
+            path,
+        }),
+        ["recording", path] => Some(TextFile {
+            form: Form::Recording,
+            path,
+        }),
+        _ => None,
+    }
+}
+
+// The number of the latest measure of a name.
+fn latest<'a>(names: &[&'a str], name: &'a str) -> Result<usize, Mistake<'a>> {
+    names
+        .iter()
+        .rposition(|other| *other == name)
+        .ok_or(Mistake::NoMeasure(name))
+}
+
+// The call that a name and the words behind it ask for, with the names of the measures above.
+fn read_call<'a>(
+    name: &'a str,
+    words: &[&'a str],
+    names: &[&'a str],
+) -> Result<Call<TextFile<'a>>, Mistake<'a>> {
+    Ok(match (name, words) {
+        ("measure", [_, file @ ..]) => Call::Measure {
+            text: text_file(file).ok_or(misuse(name))?,
+        },
+        ("admit", [job, headroom, measure]) => Call::Admit {
+            pid: read_pid(job)?,
+            headroom: read_bytes(headroom)?,
+            measure: latest(names, measure)?,
+        },
+        ("remeasure", [job, measure]) => Call::Remeasure {
+            pid: read_pid(job)?,
+            measure: latest(names, measure)?,
+        },
+        ("note", [job, file @ ..]) => Call::Note {
+            pid: read_pid(job)?,
+            text: text_file(file).ok_or(misuse(name))?,
+        },
+        ("bound", [job, file @ ..]) => Call::Bound {
+            pid: read_pid(job)?,
+            text: text_file(file).ok_or(misuse(name))?,
+        },
+        ("release", [job]) => Call::Release {
+            pid: read_pid(job)?,
+        },
+        ("look", [job]) => Call::Look {
+            pid: read_pid(job)?,
+        },
+        ("used", []) => Call::Used,
+        _ => return Err(misuse(name)),
+    })
+}
+
+// What the lines read so far come to.
+#[derive(Drop)]
+struct Draft<'a> {
+    alloc: Global,
+    limit: Option<Limit<'a>>,
+    names: Vec<&'a str>,
+    lines: Vec<Line<'a>>,
+}
+
+impl<'a> Draft<'a> {
+    fn put(&mut self, number: u64, text: &'a [u8]) -> Result<(), Mistake<'a>> {
+        let text = str::from_utf8(text).map_err(|_| Mistake::Utf8)?;
+        let words: Vec<&'a str> = text.split_ascii_whitespace().collect(self.alloc)?;
+        match words.as_slice() {
+            [] => {}
+            [first, ..] if first.starts_with('#') => {}
+            ["limit", others @ ..] => {
+                if self.limit.is_some() {
+                    return Err(Mistake::SecondLimit);
+                }
+                let [bytes] = others else {
+                    return Err(misuse("limit"))
+                };
+                let bytes = read_bytes(bytes)?;
+                self.limit = Some(Limit { words, bytes });
+            }
+            [name, others @ ..] => {
+                if self.limit.is_none() {
+                    return Err(Mistake::NoLimit);
+                }
+                let call = read_call(name, others, self.names.as_slice())?;
+                if let (Call::Measure { .. }, [measure, ..]) = (&call, others) {
+                    self.names.push(measure)?;
+                }
+                self.lines.push(Line {
+                    number,
+                    words,
+                    call,
+                })?;
+            }
+        }
+        Ok(())
+    }
+}
+
+pub fn parse<'a>(alloc: Global, text: &'a [u8]) -> Result<Script<'a>, Fault<'a>> {
+    let mut draft = Draft {
+        alloc,
+        limit: None,
+        names: Vec::new(alloc),
+        lines: Vec::new(alloc),
+    };
+    let mut number = 0u64;
+    for line in text.split(|b| *b == b'\n') {
+        number = number.saturating_add(1);
+        at_line(number, draft.put(number, line))?;
+    }
+    let Draft { limit, lines, .. } = draft;
+    match limit {
+        Some(limit) => Ok(Script { limit, lines }),
+        None => Err(Fault {
+            line: None,
+            mistake: Mistake::NoLimit,
+        }),
+    }
+}
