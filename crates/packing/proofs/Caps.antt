@@ -13,7 +13,7 @@ use Rattle.packing.specs.declared.place.News.TheVariants as news
 use Rattle.packing.specs.Packed.{Packing}
 use Rattle.packing.specs.Calls.{charge, headroom_at, admit_refusal, remeasure_refusal}
 use Rattle.packing.proofs.Firsts.{admitted, remeasured}
-use Rattle.packing.specs.Places.{no_places, charge_at, charge_of, Capped, at, write, spot, free, found, used, with_place, with_news, without, learnt_at, measured}
+use Rattle.packing.specs.Places.{no_places, charge_at, charge_of, Capped, at, write, spot, free, found, used, with_place, with_news, without, learnt_at, news_of}
 
 capped_at : (w : Option ℕ) (ps : List (Option Place)) → Capped ps → charge_at (at w ps) ≤ 2 ^ 56
 unfolding Capped
@@ -70,13 +70,13 @@ pub capped_admit : (pid : ℤ) (headroom : ℕ) (m : Closed) (l : Packing) (p : 
 capped_admit pid headroom m l p ps' k e c w = capped_with_place p l.places ps' k (let a = (admitted pid headroom m l e).light in omega (arith, a, c)) w
 
 -- A job is charged for another measure, and keeps its headroom.
-recharged : (o : Option Place) (m : Closed) → charge (headroom_at o) m ≤ 2 ^ 56 → charge_at (learnt_at (measured m) o) ≤ 2 ^ 56
+recharged : (o : Option Place) (m : Closed) → charge (headroom_at o) m ≤ 2 ^ 56 → charge_at (learnt_at (news_of m) o) ≤ 2 ^ 56
 recharged None m h = omega arith
 recharged (Some p) m h = h
 
-pub capped_remeasure : (pid : ℤ) (m : Closed) (l : Packing) (ps' : List (Option Place)) → Capped l.places → remeasure_refusal pid m l ≡ None → ps' ≡ with_news pid (measured m) l.places → Capped ps'
+pub capped_remeasure : (pid : ℤ) (m : Closed) (l : Packing) (ps' : List (Option Place)) → Capped l.places → remeasure_refusal pid m l ≡ None → ps' ≡ with_news pid (news_of m) l.places → Capped ps'
 unfolding with_news
-capped_remeasure pid m l ps' k e w = rw w (capped_write (spot pid l.places) (learnt_at (measured m) (found pid l.places)) l.places k (recharged (found pid l.places) m (remeasured pid m l e).light))
+capped_remeasure pid m l ps' k e w = rw w (capped_write (spot pid l.places) (learnt_at (news_of m) (found pid l.places)) l.places k (recharged (found pid l.places) m (remeasured pid m l e).light))
 
 -- News of another kind leave the charge.
 abbrev pub Light : News → Type 0

@@ -19,7 +19,7 @@ use Rattle.packing.specs.declared.place.Bounds.{Bounds}
 use Rattle.packing.specs.declared.place.News.{News}
 use Rattle.packing.specs.declared.place.News.TheVariants as news
 use Rattle.packing.specs.Packed.{Packing}
-use Rattle.packing.specs.Places.{no_places, charge_at, used, free, found, measured, with_place, with_news, without, view_of}
+use Rattle.packing.specs.Places.{no_places, charge_at, used, free, found, news_of, with_place, with_news, without, view_of}
 
 -- A list before any call.
 abbrev pub new_list : ℕ → Packing
@@ -79,9 +79,9 @@ handing None m new old = (Ok tt, new)
 handing (Some f) m new old = (Err (f, m), old)
 
 -- A refusal leaves the list as it is.
-abbrev pub plain : Option Refusal → Packing → Packing → Result (Unit {0}) Refusal × Packing
-plain None new old = (Ok tt, new)
-plain (Some f) new old = (Err f, old)
+abbrev pub leaving : Option Refusal → Packing → Packing → Result (Unit {0}) Refusal × Packing
+leaving None new old = (Ok tt, new)
+leaving (Some f) new old = (Err f, old)
 
 -- A job that nothing is known of but its measure.
 abbrev pub newcomer : ℤ → ℕ → Closed → Place
@@ -92,10 +92,10 @@ abbrev pub admit_of : ℤ → ℕ → Closed → Packing → Result (Unit {0}) (
 admit_of pid headroom m l = handing (admit_refusal pid headroom m l) m (placing (with_place (newcomer pid headroom m) l.places) l) l
 
 abbrev pub remeasure_of : ℤ → Closed → Packing → Result (Unit {0}) (Refusal × Closed) × Packing
-remeasure_of pid m l = handing (remeasure_refusal pid m l) m (placing (with_news pid (measured m) l.places) l) l
+remeasure_of pid m l = handing (remeasure_refusal pid m l) m (placing (with_news pid (news_of m) l.places) l) l
 
 abbrev pub release_of : ℤ → Packing → Result (Unit {0}) Refusal × Packing
-release_of pid l = plain (unknown_refusal pid l) (placing (without pid l.places) l) l
+release_of pid l = leaving (unknown_refusal pid l) (placing (without pid l.places) l) l
 
 -- What is seen of a job.
 abbrev pub seen : Option Refusal → Option Place → Result View Refusal
@@ -106,7 +106,7 @@ seen (Some f) o = Err f
 abbrev pub look_of : ℤ → Packing → Result View Refusal
 look_of pid l = seen (unknown_refusal pid l) (found pid l.places)
 
--- The letter of a status' state: the first character of its text.
+-- The letter of a status' state: the first byte of its text.
 abbrev pub letter_of : Status → Option ℕ
 letter_of s = slice_get (take s.state.len s.state.cells) 0
 
@@ -139,11 +139,12 @@ told_limits (Err f, v, left) = (Err f, left)
 unfoldable pub bounds_in : Text → Result Bounds Refusal × Text
 bounds_in t = told_limits (limits_of t)
 
--- The answer, the list and the text left, where a text is heard of a job: nothing is read of a pid that is refused.
+-- The answer, the list and the text left, where a text was read of a job.
 abbrev pub heard : {X : Type 0} → (X → News) → ℤ → Result X Refusal × Text → Packing → Result (Unit {0}) Refusal × Packing × Text
 heard {X} as_news pid (Ok x, left) l = (Ok tt, placing (with_news pid (as_news x) l.places) l, left)
 heard {X} as_news pid (Err f, left) l = (Err f, l, left)
 
+-- The same where the pid may be refused: then nothing is read.
 abbrev pub hears : {X : Type 0} → Option Refusal → (X → News) → ℤ → Result X Refusal × Text → Text → Packing → Result (Unit {0}) Refusal × Packing × Text
 hears {X} None as_news pid told t l = heard as_news pid told l
 hears {X} (Some f) as_news pid told t l = (Err f, l, t)

@@ -56,9 +56,9 @@ free ps = position is_free ps
 unfoldable pub found : ℤ → List (Option Place) → Option Place
 found pid ps = at (spot pid ps) ps
 
--- The figures of a measure.
-abbrev pub measured : Closed → News
-measured m = Measured m.mappings m.totals
+-- The news that a measure is.
+abbrev pub news_of : Closed → News
+news_of m = Measured m.mappings m.totals
 
 -- News change what they speak of, and nothing else.
 abbrev pub learnt : News → Place → Place

@@ -1,5 +1,5 @@
 ghost use Rattle.std.specs.Prelude.{◌≡◌, ◌≤◌, ◌^◌};
-ghost use Rattle.packing.specs.Places.{charge_of, learnt, view_of, measured};
+ghost use Rattle.packing.specs.Places.{charge_of, learnt, news_of, view_of};
 
 use kinds::measure::{Closed, Figures};
 use limits::limit::LimitValue;
@@ -50,9 +50,9 @@ pub struct View {
 }
 
 impl News {
-    // The figures of a measure.
+    // What a measure tells.
     pub fn of(measure: &Closed) -> News
-        ensures { result ≡ measured measure.now }
+        ensures { result ≡ news_of measure.now }
     {
         News::Measured {
             mappings: measure.mappings(),

@@ -1,5 +1,5 @@
 -- A measure in hand that is charged, or handed back.
-use Rattle.std.proofs.Common.{◌≡◌, ◌∙◌, ap, sym, refl, ℕ, Option, Some, None, Result, get_or, slice_set}
+use Rattle.std.proofs.Common.{◌≡◌, ◌∙◌, ap, sym, refl, ℕ, Option, Some, None, Result, get_or, slice_set, arith}
 use Rattle.std.proofs.lemmas.List.{set-set, set-get_or}
 use Rattle.sources.specs.declared.fault.Refusal.{Refusal}
 use Rattle.kinds.specs.declared.measure.Closed.{Closed}
@@ -7,6 +7,8 @@ use Rattle.packing.specs.Packed.{Packing}
 use Rattle.packing.specs.Calls.{handing}
 use Rattle.runs.specs.declared.call.Answer.{Answer}
 use Rattle.runs.specs.declared.call.Answer.TheVariants.{Missing, Handed}
+use Rattle.std.specs.Global.{Vec}
+use Rattle.runs.specs.Room.{Grown}
 use Rattle.runs.specs.Run.{Bench, Desk, settled, settled_by, charging}
 
 -- What is taken from the bench and put back leaves it as it was.
@@ -35,3 +37,7 @@ missed d k call b l g t e =
     ap (λ x. (Missing, (x, b))) e
     ∙ ap (λ x. (Missing, (d.0, x))) (t ∙ put_back d.1 k None g)
     ∙ ap (λ o. charging d k o call) g
+
+-- Nothing more, twice.
+pub then_grown : {X : Type 0} {u v w : Vec X} → Grown 0 u v → Grown 0 v w → Grown 0 u w
+then_grown {X} {u} {v} {w} g h = record { capacity = h.capacity ∙ g.capacity; len = let a = g.len in let b = h.len in omega (arith, a, b) }

@@ -21,14 +21,14 @@ use Rattle.packing.specs.declared.place.News.TheVariants as news
 use Rattle.packing.specs.Packed.{Packing}
 use Rattle.packing.specs.Places as places
 use Rattle.packing.specs.Places.{no_places, used, found, free, is_of, with_place, with_news, without, learnt_at}
-use Rattle.packing.specs.Calls.{new_list, placing, newcomer, handing, plain, hears, admit_refusal, remeasure_refusal, unknown_refusal, note_in, bounds_in}
+use Rattle.packing.specs.Calls.{new_list, placing, newcomer, handing, leaving, hears, admit_refusal, remeasure_refusal, unknown_refusal, note_in, bounds_in}
 use Rattle.packing.proofs.Firsts.{admitted, remeasured, known}
 use Rattle.runs.specs.declared.call.Call.{Call}
 use Rattle.runs.specs.declared.call.Call.TheVariants.{Measure, Admit, Remeasure, Note, Bound, Release, Look, Used}
 use Rattle.runs.specs.declared.call.Answer.{Answer}
 use Rattle.runs.specs.declared.call.Answer.TheVariants.{Total}
 use Rattle.runs.specs.Run.{Bench, Desk, kept, settled, charging, of_plain, served, answers, answers_of}
-use Rattle.runs.specs.Ledger.{Entry, weighs, owes, is_for, texts, recharged, told, Sums, Raises, HoldsFrom, SumsHold}
+use Rattle.runs.specs.Ledger.{Entry, weighs, owes, is_for, texts, recharged, told, UsedIsSum, IsAcceptedRemeasure, HoldsFrom, SumsHold}
 use Rattle.runs.proofs.Spots.{found-first, sum-with_place, sum-with_news, sum-without}
 use Rattle.runs.proofs.Weights.{Weight, entry_by, place_by, only, anew, charges, ones, sum-released, sum-recharged, one_place, absent-nowhere, charges-used, ones-count}
 
@@ -137,7 +137,7 @@ of-one : (limit : ℕ) (ts : List (List ℕ)) (s : List Entry) (d : Desk) (q : �
 of-one limit ts s d q w g = g.each (only q w) ∙ one_place q w d.0.places (g.single q) ∙ ap (place_by w) (sym (found-first q d.0.places))
 
 -- a measure charged, of what its text weighs
-measured-weight : (w : Weight) (m : Closed) (x : ℕ) (o : Option Place) → m.totals.pss + m.totals.swap_pss ≡ x → place_by w (learnt_at (places.measured m) o) ≡ place_by (anew x w) o
+measured-weight : (w : Weight) (m : Closed) (x : ℕ) (o : Option Place) → m.totals.pss + m.totals.swap_pss ≡ x → place_by w (learnt_at (places.news_of m) o) ≡ place_by (anew x w) o
 measured-weight w m x None e = refl
 measured-weight w m x (Some p) e = ap (w p.pid p.headroom) e
 
@@ -180,14 +180,14 @@ module _ (limit : ℕ) (ts : List (List ℕ)) (s : List Entry) (l : Packing) (b 
       omega (arith, a, f, u, n, c)
 
   remeasure-good : (pid : ℤ) (k : ℕ) (m : Closed) → get_or b k None ≡ Some m → remeasure_refusal pid m l ≡ None →
-      Good limit ts (map (recharged pid (get_or ts k [])) s) (placing (with_news pid (places.measured m) l.places) l, slice_set b k None)
+      Good limit ts (map (recharged pid (get_or ts k [])) s) (placing (with_news pid (places.news_of m) l.places) l, slice_set b k None)
   remeasure-good pid k m i e =
       let a = (remeasured pid m l e).present in
       record {
         limited = g.limited;
-        single = single-news pid (places.measured m) l.places a g.single;
+        single = single-news pid (places.news_of m) l.places a g.single;
         each = λ w. (
-            let u = sum-with_news (place_by w) pid (places.measured m) l.places a in
+            let u = sum-with_news (place_by w) pid (places.news_of m) l.places a in
             let r = sum-recharged pid (get_or ts k []) w s in
             let x = of-one limit ts s (l, b) pid w g in
             let y = of-one limit ts s (l, b) pid (anew (weighs (get_or ts k [])) w) g in
@@ -227,17 +227,17 @@ module _ (limit : ℕ) (ts : List (List ℕ)) (s : List Entry) (l : Packing) (b 
         beside = g.beside;
       }
 
--- What a call leaves: the ledger is still what the places hold, and its sum passed the limit only at an accepted remeasure.
+-- What a call leaves: the ledger is still what the places hold, and its sum grew to more than the limit only at an accepted remeasure.
 record Next (limit : ℕ) (ts : List (List ℕ)) (s : List Entry) (c : Call Text) (r : Answer × Desk) : Type 0 where
   good : Good limit (texts ts c) (told ts s c r.0) r.1
-  crosses : sum_by owes s ≤ limit → limit < sum_by owes (told ts s c r.0) → Raises c r.0
+  crosses : sum_by owes s < sum_by owes (told ts s c r.0) → limit < sum_by owes (told ts s c r.0) → IsAcceptedRemeasure c r.0
 
--- a sum that does not grow crosses nothing
-calm : {A : Type 0} (limit x y : ℕ) → y ≤ x → x ≤ limit → limit < y → A
-calm {A} limit x y h i j = absurd (omega (arith, h, i, j))
+-- a sum that does not grow
+calm : {A : Type 0} (limit x y : ℕ) → y ≤ x → x < y → limit < y → A
+calm {A} limit x y h i j = absurd (omega (arith, h, i))
 
-same-sum : {A : Type 0} (limit x : ℕ) → x ≤ limit → limit < x → A
-same-sum {A} limit x i j = absurd (omega (arith, i, j))
+same-sum : {A : Type 0} (limit x : ℕ) → x < x → limit < x → A
+same-sum {A} limit x i j = absurd (omega (arith, i))
 
 next : (limit : ℕ) (ts : List (List ℕ)) (s : List Entry) (d : Desk) (c : Call Text) → Good limit ts s d → Next limit ts s c (served d c)
 next limit ts s d (Measure t) g = record {
@@ -258,11 +258,11 @@ next limit ts s d (Admit pid h k) g = go (get_or d.1 k None) refl
     go (Some m) i = judge m i (admit_refusal pid h m d.0) refl
 next limit ts s d (Remeasure pid k) g = go (get_or d.1 k None) refl
   where
-    judge : (m : Closed) → get_or d.1 k None ≡ Some m → (v : Option Refusal) → remeasure_refusal pid m d.0 ≡ v → Next limit ts s (Remeasure pid k) (settled d k (handing v m (placing (with_news pid (places.measured m) d.0.places) d.0) d.0))
+    judge : (m : Closed) → get_or d.1 k None ≡ Some m → (v : Option Refusal) → remeasure_refusal pid m d.0 ≡ v → Next limit ts s (Remeasure pid k) (settled d k (handing v m (placing (with_news pid (places.news_of m) d.0.places) d.0) d.0))
     judge m i None e = record { good = remeasure-good limit ts s d.0 d.1 g pid k m i e; crosses = λ y z. refl }
     judge m i (Some f) e = record { good = g; crosses = same-sum limit (sum_by owes s) }
 
-    go : (o : Option Closed) → get_or d.1 k None ≡ o → Next limit ts s (Remeasure pid k) (charging d k o (λ m. handing (remeasure_refusal pid m d.0) m (placing (with_news pid (places.measured m) d.0.places) d.0) d.0))
+    go : (o : Option Closed) → get_or d.1 k None ≡ o → Next limit ts s (Remeasure pid k) (charging d k o (λ m. handing (remeasure_refusal pid m d.0) m (placing (with_news pid (places.news_of m) d.0.places) d.0) d.0))
     go None i = record { good = g; crosses = same-sum limit (sum_by owes s) }
     go (Some m) i = judge m i (remeasure_refusal pid m d.0) refl
 next limit ts s d (Note pid t) g = record { good = go (unknown_refusal pid d.0) refl (note_in pid t); crosses = same-sum limit (sum_by owes s) }
@@ -279,7 +279,7 @@ next limit ts s d (Bound pid t) g = record { good = go (unknown_refusal pid d.0)
     go (Some f) e r = g
 next limit ts s d (Release pid) g = go (unknown_refusal pid d.0) refl
   where
-    go : (v : Option Refusal) → unknown_refusal pid d.0 ≡ v → Next limit ts s (Release pid) (of_plain (plain v (placing (without pid d.0.places) d.0) d.0).0, ((plain v (placing (without pid d.0.places) d.0) d.0).1, d.1))
+    go : (v : Option Refusal) → unknown_refusal pid d.0 ≡ v → Next limit ts s (Release pid) (of_plain (leaving v (placing (without pid d.0.places) d.0) d.0).0, ((leaving v (placing (without pid d.0.places) d.0) d.0).1, d.1))
     go None e = record {
       good = release-good limit ts s d.0 d.1 g pid e;
       crosses = calm limit (sum_by owes s) (sum_by owes (filter (λ e. not (is_for pid e)) s)) (let r = sum-released pid charges s in omega (arith, r));
@@ -288,7 +288,7 @@ next limit ts s d (Release pid) g = go (unknown_refusal pid d.0) refl
 next limit ts s d (Look pid) g = record { good = g; crosses = same-sum limit (sum_by owes s) }
 next limit ts s d Used g = record { good = g; crosses = same-sum limit (sum_by owes s) }
 
-sums : (limit : ℕ) (ts : List (List ℕ)) (s : List Entry) (d : Desk) (c : Call Text) → Good limit ts s d → Sums s c (served d c).0
+sums : (limit : ℕ) (ts : List (List ℕ)) (s : List Entry) (d : Desk) (c : Call Text) → Good limit ts s d → UsedIsSum s c (served d c).0
 sums limit ts s d (Measure t) g = tt
 sums limit ts s d (Admit pid h k) g = tt
 sums limit ts s d (Remeasure pid k) g = tt

@@ -32,7 +32,7 @@ use Rattle.runs.specs.declared.call.Call.{Call}
 use Rattle.runs.specs.declared.call.Answer.{Answer}
 use Rattle.runs.specs.declared.call.Answer.TheVariants.{Refused}
 use Rattle.runs.specs.Run.{Desk, of_measure, kept, of_plain, served, answers}
-use Rattle.runs.specs.Newer.{NewerText, Newer, same, measured as measured_newer, noted, bounded, Newers, bare, plain}
+use Rattle.runs.specs.Newer.{NewerText, Newer, same, measured as measured_newer, noted, bounded, Newers, bare, unnumbered}
 
 -- refusals that differ by their line
 same-bare : (f g : Refusal) → (f.reason ≡ g.reason) × (f.field ≡ g.field) → bare f ≡ bare g
@@ -44,14 +44,14 @@ same-self : {C : Type 0} (r : Result C Refusal) → Same r r
 same-self {C} (Ok v) = refl
 same-self {C} (Err f) = (refl, refl)
 
-same-measure : (r s : Result Closed Refusal) → Same r s → (plain (of_measure r) ≡ plain (of_measure s)) × (kept r ≡ kept s)
+same-measure : (r s : Result Closed Refusal) → Same r s → (unnumbered (of_measure r) ≡ unnumbered (of_measure s)) × (kept r ≡ kept s)
 same-measure (Ok c) (Ok d) e = (ap (λ (x : Closed). of_measure (Ok x)) e, ap Some e)
 same-measure (Ok c) (Err g) e = absurd e
 same-measure (Err f) (Ok d) e = absurd e
 same-measure (Err f) (Err g) e = (ap Refused (same-bare f g e), refl)
 
 same-heard : {X : Type 0} (as_news : X → News) (pid : ℤ) (l : Packing) (v : Option Refusal) (r s : Result X Refusal) (t u left left' : Text) → Same r s →
-    (plain (of_plain (hears v as_news pid (r, left) t l).0) ≡ plain (of_plain (hears v as_news pid (s, left') u l).0)) × ((hears v as_news pid (r, left) t l).1 ≡ (hears v as_news pid (s, left') u l).1)
+    (unnumbered (of_plain (hears v as_news pid (r, left) t l).0) ≡ unnumbered (of_plain (hears v as_news pid (s, left') u l).0)) × ((hears v as_news pid (r, left) t l).1 ≡ (hears v as_news pid (s, left') u l).1)
 same-heard {X} as_news pid l (Some f) r s t u left left' e = (refl, refl)
 same-heard {X} as_news pid l None (Ok x) (Ok y) t u left left' e = (refl, ap (λ (z : X). placing (with_news pid (as_news z) l.places) l) e)
 same-heard {X} as_news pid l None (Ok x) (Err g) t u left left' e = absurd e
@@ -90,7 +90,7 @@ newer_bounds t u n =
     (newer limits_text.limits_rules slotted.has_begun limits.is_foreign (slotted.foreign_aside limits.entry_of fill_limits judged_limits Ends limits.is_foreign limits_laws.foreign_empty) (slotted.begins_with_any limits.entry_of fill_limits judged_limits Ends) (Ok fresh) t u.bytes refl n.edition n.fits))
 
 -- One call answers the same and leaves the same.
-newer_served : (d : Desk) (c e : Call Text) → Newer c e → (plain (served d c).0 ≡ plain (served d e).0) × ((served d c).1 ≡ (served d e).1)
+newer_served : (d : Desk) (c e : Call Text) → Newer c e → (unnumbered (served d c).0 ≡ unnumbered (served d e).0) × ((served d c).1 ≡ (served d e).1)
 newer_served d c e (same x) = (refl, refl)
 newer_served d c e (measured_newer t u n) =
     let k = same-measure (measured t) (measured u) (newer_measure t u n) in
@@ -102,13 +102,13 @@ newer_served d c e (bounded pid t u n) =
     let k = same-heard news.Bounded pid d.0 (unknown_refusal pid d.0) (bounds_in t).0 (bounds_in u).0 t u (bounds_in t).1 (bounds_in u).1 (newer_bounds t u n) in
     (k.0, ap (λ (l : Packing). (l, d.1)) k.1)
 
-pub twins : (d : Desk) (cs ds : List (Call Text)) → Newers cs ds → map plain (answers d cs) ≡ map plain (answers d ds)
+pub twins : (d : Desk) (cs ds : List (Call Text)) → Newers cs ds → map unnumbered (answers d cs) ≡ map unnumbered (answers d ds)
 unfolding answers
 twins d [] [] n = refl
 twins d [] (e ∷ ds) n = absurd n
 twins d (c ∷ cs) [] n = absurd n
 twins d (c ∷ cs) (e ∷ ds) n =
     let k = newer_served d c e n.0 in
-    ap (λ (a : Answer). a ∷ map plain (answers (served d c).1 cs)) k.0
-    ∙ ap (λ (x : Desk). plain (served d e).0 ∷ map plain (answers x cs)) k.1
-    ∙ ap (λ (as' : List Answer). plain (served d e).0 ∷ as') (twins (served d e).1 cs ds n.1)
+    ap (λ (a : Answer). a ∷ map unnumbered (answers (served d c).1 cs)) k.0
+    ∙ ap (λ (x : Desk). unnumbered (served d e).0 ∷ map unnumbered (answers x cs)) k.1
+    ∙ ap (λ (as' : List Answer). unnumbered (served d e).0 ∷ as') (twins (served d e).1 cs ds n.1)

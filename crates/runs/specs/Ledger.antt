@@ -26,7 +26,7 @@ owes e = weighs e.bytes + e.headroom
 abbrev pub is_for : ℤ → Entry → Bool
 is_for pid e = int_eq e.pid pid
 
--- A job is accepted, or its figures are.
+-- The call is accepted.
 abbrev pub accepted : Answer → Bool
 accepted Done = true
 accepted _ = false
@@ -47,21 +47,20 @@ told ts s (Remeasure pid k) a = cond (accepted a) (map (recharged pid (get_or ts
 told ts s (Release pid) a = cond (accepted a) (filter (λ e. not (is_for pid e)) s) s
 told ts s _ a = s
 
--- What is used is the sum over the jobs that are in.
-abbrev pub Sums : List Entry → Call Text → Answer → Type 0
-Sums s Used a = a ≡ Total (sum_by owes s)
-Sums s _ a = Unit {0}
+-- What used answers is the sum over the jobs that are in.
+abbrev pub UsedIsSum : List Entry → Call Text → Answer → Type 0
+UsedIsSum s Used a = a ≡ Total (sum_by owes s)
+UsedIsSum s _ a = Unit {0}
 
--- An accepted remeasure.
-abbrev pub Raises : Call Text → Answer → Type 0
-Raises (Remeasure pid k) a = accepted a ≡ true
-Raises _ a = ⊥
+abbrev pub IsAcceptedRemeasure : Call Text → Answer → Type 0
+IsAcceptedRemeasure (Remeasure pid k) a = accepted a ≡ true
+IsAcceptedRemeasure _ a = ⊥
 
--- What holds of a call and its answer, where the ledger was s before and is s' after: no job is in twice, and only an accepted remeasure takes the sum past the limit.
+-- What holds of a call and its answer, where the ledger was s before and is s' after: no job is in twice, and only an accepted remeasure lets the sum grow to more than the limit.
 pub record Holds (limit : ℕ) (s s' : List Entry) (c : Call Text) (a : Answer) : Type 0 where
-  pub sums : Sums s c a
+  pub sums : UsedIsSum s c a
   pub single : (pid : ℤ) → count_by (is_for pid) s' ≤ 1
-  pub crosses : sum_by owes s ≤ limit → limit < sum_by owes s' → Raises c a
+  pub crosses : sum_by owes s < sum_by owes s' → limit < sum_by owes s' → IsAcceptedRemeasure c a
 
 -- It holds of each call of a row.
 abbrev pub HoldsFrom : ℕ → List (List ℕ) → List Entry → List (Call Text) → List Answer → Type 0

@@ -1,3 +1,4 @@
+pub mod Room
 pub mod Run
 pub mod Ledger
 pub mod Newer

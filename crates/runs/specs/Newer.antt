@@ -36,11 +36,11 @@ Newers _ _ = ⊥
 abbrev pub bare : Refusal → Refusal
 bare f = record { reason = f.reason; line = 0; field = f.field }
 
-abbrev pub plain : Answer → Answer
-plain (Refused f) = Refused (bare f)
-plain (Handed f mappings totals) = Handed (bare f) mappings totals
-plain a = a
+abbrev pub unnumbered : Answer → Answer
+unnumbered (Refused f) = Refused (bare f)
+unnumbered (Handed f mappings totals) = Handed (bare f) mappings totals
+unnumbered a = a
 
 -- Any row of calls that differs by newer editions answers the same, on another list of this limit.
 abbrev pub SameInEditions : ℕ → List (Call Text) → List Answer → Type 0
-SameInEditions limit cs rs = (ds : List (Call Text)) → Newers cs ds → map plain rs ≡ map plain (answers_of limit ds)
+SameInEditions limit cs rs = (ds : List (Call Text)) → Newers cs ds → map unnumbered rs ≡ map unnumbered (answers_of limit ds)

@@ -53,6 +53,7 @@ abbrev pub settled : Desk → ℕ → Result (Unit {0}) (Refusal × Closed) × P
 settled d k (Ok u, l) = (Done, (l, slice_set d.1 k None))
 settled d k (Err (f, m), l) = (Handed f m.mappings m.totals, (l, d.1))
 
+-- The same of the measure in hand with a number, if there is one.
 abbrev pub charging : Desk → ℕ → Option Closed → (Closed → Result (Unit {0}) (Refusal × Closed) × Packing) → Answer × Desk
 charging d k None call = (Missing, d)
 charging d k (Some m) call = settled d k (call m)

@@ -1,7 +1,9 @@
-ghost use Rattle.std.specs.Prelude.{◌≡◌, IfOk, None, get_or, slice_set, ◌<◌, length};
+ghost use Rattle.std.specs.Prelude.{◌≡◌, ◌<◌, None, get_or, slice_set, vec_len};
+ghost use Rattle.std.specs.Vec.{vec_capacity};
 ghost use Rattle.kinds.specs.Measured.{measured};
 ghost use Rattle.packing.specs.Calls.{admit_of, remeasure_of};
 ghost use Rattle.runs.specs.declared.call.Call.TheVariants.{Admit, Remeasure};
+ghost use Rattle.runs.specs.Room.{Grown};
 ghost use Rattle.runs.specs.Run.{textual, of_plain, of_seen, served, measure_on, charging, settled_by};
 
 use crate::call::{Answer, Call};
@@ -10,11 +12,10 @@ use packing::list::PackingList;
 use packing::place::View;
 use sources::fault::Refusal;
 use sources::source::Source;
-use std::alloc::{AllocError, Global};
 
 // A packing list with the measures in hand: of each Measure call, what it made, until that is charged.
 #[derive(Drop)]
-pub struct Desk {
+pub(crate) struct Desk {
     pub list: PackingList,
     pub bench: Vec<Option<Closed>>,
 }
@@ -40,8 +41,10 @@ fn seen(r: Result<View, Refusal>) -> Answer
 
 impl Desk {
     // Measures a text, and keeps the measure in hand.
-    fn measure<S: Source>(&mut self, source: &mut S) -> Result<Answer, AllocError>
-        ensures { IfOk result (λ a. (a, (self.new.list, self.new.bench.items)) ≡ measure_on (self.old.list, self.old.bench.items) (measured (S.text source.old))) }
+    fn measure<S: Source>(&mut self, source: &mut S) -> Answer
+        requires { vec_len self.old.bench < vec_capacity self.old.bench }
+        ensures served { (result, (self.new.list, self.new.bench.items)) ≡ measure_on (self.old.list, self.old.bench.items) (measured (S.text source.old)) }
+        ensures room { Grown 1 self.old.bench self.new.bench }
     {
         let (answer, kept) = match measure(source) {
             Ok(closed) => {
@@ -53,14 +56,15 @@ impl Desk {
             }
             Err(refusal) => (Answer::Refused(refusal), None),
         };
-        self.bench.push(kept)?;
-        Ok(answer)
+        self.bench.push_reserved(kept);
+        answer
     }
     // Takes a measure in hand.
     fn take(&mut self, k: usize) -> Option<Closed>
         ensures answer { result ≡ get_or self.old.bench.items k None }
         ensures bench { self.new.bench.items ≡ slice_set self.old.bench.items k None }
         ensures list { self.new.list ≡ self.old.list }
+        ensures room { Grown 0 self.old.bench self.new.bench }
     {
         match self.bench.get_mut(k) {
             Some(kept) => kept.take(),
@@ -70,7 +74,8 @@ impl Desk {
 
     // What a charge answers; a measure that is handed back is in hand again.
     fn settle(&mut self, k: usize, r: Result<(), (Refusal, Closed)>) -> Answer
-        ensures { (result, (self.new.list, self.new.bench.items)) ≡ settled_by k r (self.old.list, self.old.bench.items) }
+        ensures served { (result, (self.new.list, self.new.bench.items)) ≡ settled_by k r (self.old.list, self.old.bench.items) }
+        ensures room { Grown 0 self.old.bench self.new.bench }
     {
         match r {
             Ok(()) => Answer::Done,
@@ -89,7 +94,8 @@ impl Desk {
     }
     // Charges a measure in hand.
     fn admit(&mut self, pid: i32, headroom: u64, k: usize) -> Answer
-        ensures { (result, (self.new.list, self.new.bench.items)) ≡ served (self.old.list, self.old.bench.items) (Admit pid headroom k) }
+        ensures served { (result, (self.new.list, self.new.bench.items)) ≡ served (self.old.list, self.old.bench.items) (Admit pid headroom k) }
+        ensures room { Grown 0 self.old.bench self.new.bench }
     {
         match self.take(k) {
             None => Answer::Missing,
@@ -101,7 +107,8 @@ impl Desk {
     }
 
     fn remeasure(&mut self, pid: i32, k: usize) -> Answer
-        ensures { (result, (self.new.list, self.new.bench.items)) ≡ served (self.old.list, self.old.bench.items) (Remeasure pid k) }
+        ensures served { (result, (self.new.list, self.new.bench.items)) ≡ served (self.old.list, self.old.bench.items) (Remeasure pid k) }
+        ensures room { Grown 0 self.old.bench self.new.bench }
     {
         match self.take(k) {
             None => Answer::Missing,
@@ -113,11 +120,13 @@ impl Desk {
     }
 
     // Serves a call.
-    pub fn serve<S: Source + Drop>(&mut self, call: Call<S>) -> Result<Answer, AllocError>
-        ensures { IfOk result (λ a. (a, (self.new.list, self.new.bench.items)) ≡ served (self.old.list, self.old.bench.items) (textual S.text call)) }
+    pub(crate) fn serve<S: Source + Drop>(&mut self, call: Call<S>) -> Answer
+        requires { vec_len self.old.bench < vec_capacity self.old.bench }
+        ensures served { (result, (self.new.list, self.new.bench.items)) ≡ served (self.old.list, self.old.bench.items) (textual S.text call) }
+        ensures room { Grown 1 self.old.bench self.new.bench }
     {
-        Ok(match call {
-            Call::Measure { mut text } => self.measure(&mut text)?,
+        match call {
+            Call::Measure { mut text } => self.measure(&mut text),
             Call::Admit {
                 pid,
                 headroom,
@@ -129,6 +138,6 @@ impl Desk {
             Call::Release { pid } => plainly(self.list.release(pid)),
             Call::Look { pid } => seen(self.list.look(pid)),
             Call::Used => Answer::Total(self.list.used()),
-        })
+        }
     }
 }

@@ -2,5 +2,5 @@
 #![tactic(auto)]
 
 pub mod call;
-pub mod desk;
+mod desk;
 pub mod run;

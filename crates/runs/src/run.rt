@@ -1,4 +1,4 @@
-ghost use Rattle.std.specs.Prelude.{◌≡◌, IfOk, map};
+ghost use Rattle.std.specs.Prelude.{◌≡◌, ◌≤◌, ◌↔◌, IsOk, IfOk, map, vec_len};
 ghost use Rattle.runs.specs.Run.{textual, answers_of};
 ghost use Rattle.runs.specs.Ledger.{SumsHold};
 ghost use Rattle.runs.specs.Newer.{SameInEditions};
@@ -6,28 +6,68 @@ ghost use Rattle.runs.specs.Joins.{JoinsAdd};
 
 use crate::call::{Answer, Call};
 use crate::desk::Desk;
+use kinds::measure::Closed;
 use packing::list::PackingList;
 use sources::source::Source;
 use std::alloc::{AllocError, Global};
+use std::marker::Model;
 
-// Runs a row of calls on a list that is just made: what each answers.
+// The memory of a run: for its answers, and for the measures in hand. It is for so many calls.
+#[derive(Drop)]
+pub struct Memory {
+    answers: Vec<Answer>,
+    bench: Vec<Option<Closed>>,
+}
+
+impl Model for Memory {
+    ghost use Rattle.std.specs.Prelude.{◌≡◌, ℕ, [], vec_len};
+    ghost use Rattle.std.specs.Vec.{vec_capacity};
+
+    ghost Value = { ℕ };
+
+    ghost view = { λ m. vec_capacity m.answers };
+
+    ghost invariant = { λ m. (m.answers.items ≡ []) × (vec_len m.answers ≡ 0) × (m.bench.items ≡ []) × (vec_len m.bench ≡ 0) × (vec_capacity m.bench ≡ vec_capacity m.answers) };
+}
+
+impl Memory {
+    pub fn new(alloc: Global, calls: usize) -> Result<Memory, AllocError>
+        ensures { IfOk result (λ m. m ≡ calls) }
+    {
+        Ok(Memory {
+            answers: Vec::with_capacity(alloc, calls)?,
+            bench: Vec::with_capacity(alloc, calls)?,
+        })
+    }
+}
+
+// A row of more calls than its memory is for.
+#[derive(Clone, Copy, PartialEq, Eq, Debug)]
+pub struct NoRoom;
+
+// Runs a row of calls on a list that is just made: what each answers. A row that has no room in the memory is not begun.
 pub fn run<S: Source + Drop>(
-    alloc: Global,
     limit: u64,
     calls: Vec<Call<S>>,
-) -> Result<Vec<Answer>, AllocError>
+    memory: Memory,
+) -> Result<Vec<Answer>, NoRoom>
+    ensures room { IsOk result ↔ (vec_len calls ≤ memory) }
     ensures defined { IfOk result (λ v. v.items ≡ answers_of limit (map (textual S.text) calls.items)) }
     ensures sums { IfOk result (λ v. SumsHold limit (map (textual S.text) calls.items) v.items) }
     ensures editions { IfOk result (λ v. SameInEditions limit (map (textual S.text) calls.items) v.items) }
     ensures joins { IfOk result (λ v. JoinsAdd (map (textual S.text) calls.items) v.items) }
 {
+    let Memory { answers, bench } = memory;
+    let mut answers = answers;
+    if calls.len() > answers.capacity() {
+        return Err(NoRoom);
+    }
     let mut desk = Desk {
         list: PackingList::new(limit),
-        bench: Vec::new(alloc),
+        bench,
     };
-    let mut answers = Vec::new(alloc);
     for call in calls {
-        answers.push(desk.serve(call)?)?;
+        answers.push_reserved(desk.serve(call));
     }
     Ok(answers)
 }

@@ -1,7 +1,7 @@
 use Rattle.std.proofs.Common.{rules, refl, ◌≡◌, sym, ap, ◌∙◌, to_z, of_z, w32}
 use Rattle.packing.specs.Calls.{admit_of, admit_refusal, placing, newcomer}
 use Rattle.packing.specs.Places.{with_place}
-use Rattle.runs.proofs.Desks.{charged}
+use Rattle.runs.proofs.Desks.{charged, then_grown}
 use Rattle.runs.proofs.desk.Desk.admit.Goals as goal
 
 pub returns-in-Some : goal.returns-in-Some
@@ -12,4 +12,7 @@ returns-in-Some c =
     let m = c.in-Some.closed in
     let same_pid : to_z w32 (of_z w32 pid) ≡ pid = search rules in
     let answered = c.admit-r.ensures ∙ ap (λ z. admit_of z h m c.take.new.self.list) same_pid ∙ ap (admit_of pid h m) c.take.ensures.list in
-    charged (l, c.args.self.now.bench.items) c.args.k m (λ m. admit_of pid h m l) (admit_refusal pid h m l) (placing (with_place (newcomer pid h m) l.places) l) _ _ _ _ (sym c.in-Some.is ∙ c.take.ensures.answer) c.take.ensures.bench refl answered c.settle.ensures
+    record {
+      served = charged (l, c.args.self.now.bench.items) c.args.k m (λ m. admit_of pid h m l) (admit_refusal pid h m l) (placing (with_place (newcomer pid h m) l.places) l) _ _ _ _ (sym c.in-Some.is ∙ c.take.ensures.answer) c.take.ensures.bench refl answered c.settle.ensures.served;
+      room = then_grown c.take.ensures.room c.settle.ensures.room;
+    }

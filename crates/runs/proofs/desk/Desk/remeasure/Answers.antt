@@ -1,7 +1,7 @@
 use Rattle.std.proofs.Common.{rules, refl, ◌≡◌, sym, ap, ◌∙◌, to_z, of_z, w32}
 use Rattle.packing.specs.Calls.{remeasure_of, remeasure_refusal, placing}
-use Rattle.packing.specs.Places.{with_news, measured}
-use Rattle.runs.proofs.Desks.{charged}
+use Rattle.packing.specs.Places.{with_news, news_of}
+use Rattle.runs.proofs.Desks.{charged, then_grown}
 use Rattle.runs.proofs.desk.Desk.remeasure.Goals as goal
 
 pub returns-in-Some : goal.returns-in-Some
@@ -11,4 +11,7 @@ returns-in-Some c =
     let m = c.in-Some.closed in
     let same_pid : to_z w32 (of_z w32 pid) ≡ pid = search rules in
     let answered = c.remeasure-r.ensures ∙ ap (λ z. remeasure_of z m c.take.new.self.list) same_pid ∙ ap (remeasure_of pid m) c.take.ensures.list in
-    charged (l, c.args.self.now.bench.items) c.args.k m (λ m. remeasure_of pid m l) (remeasure_refusal pid m l) (placing (with_news pid (measured m) l.places) l) _ _ _ _ (sym c.in-Some.is ∙ c.take.ensures.answer) c.take.ensures.bench refl answered c.settle.ensures
+    record {
+      served = charged (l, c.args.self.now.bench.items) c.args.k m (λ m. remeasure_of pid m l) (remeasure_refusal pid m l) (placing (with_news pid (news_of m) l.places) l) _ _ _ _ (sym c.in-Some.is ∙ c.take.ensures.answer) c.take.ensures.bench refl answered c.settle.ensures.served;
+      room = then_grown c.take.ensures.room c.settle.ensures.room;
+    }

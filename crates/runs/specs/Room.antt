@@ -1,0 +1,9 @@
+-- Memory for a run.
+use Rattle.std.specs.Prelude.{◌≡◌, ℕ, ◌+◌, ◌≤◌, vec_len}
+use Rattle.std.specs.Global.{Vec}
+use Rattle.std.specs.Vec.{vec_capacity}
+
+-- n items more at most, and the same capacity.
+pub record Grown {X : Type 0} (n : ℕ) (v w : Vec X) : Type 0 where
+  pub capacity : vec_capacity w ≡ vec_capacity v
+  pub len : vec_len w ≤ vec_len v + n
