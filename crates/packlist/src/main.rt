@@ -16,7 +16,7 @@ use anyhow::{bail, ensure};
 use files::{calls, read_texts};
 use report::{Room, Told, Words};
 use runs::call::Answer;
-use runs::run::run;
+use runs::run::{Memory, run};
 use script::{Fault, Script, parse};
 use std::alloc::Global;
 use std::io::Read;
@@ -44,7 +44,8 @@ fn run_script<'a>(
     ensures twice { IfOk result (λ v. vec_len v ≡ 2 * vec_len script.now.lines) }
 {
     let calls = calls(alloc, script.lines.as_slice(), texts)?;
-    Ok(run(alloc, script.limit.bytes, calls)?)
+    let memory = Memory::new(alloc, calls.len())?;
+    Ok(run(script.limit.bytes, calls, memory)?)
 }
 
 // A script with its answers. All files are read before anything is run.

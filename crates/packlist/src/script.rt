@@ -15,6 +15,7 @@ ghost use Rattle.std.specs.Prelude.{◌≡◌, MatchResult};
 
 use crate::input::Form;
 use runs::call::Call;
+use runs::run::NoRoom;
 use std::alloc::{AllocError, AllocFailed, Global};
 use std::error::Error;
 use std::{fmt, io};
@@ -115,6 +116,15 @@ impl From<AllocError> for Fault<'_> {
 impl<T: Drop> From<AllocFailed<T>> for Fault<'_> {
     fn from(error: AllocFailed<T>) -> Self {
         Fault::from(AllocError::from(error))
+    }
+}
+
+impl From<NoRoom> for Fault<'_> {
+    fn from(_error: NoRoom) -> Self {
+        Fault {
+            line: None,
+            mistake: Mistake::Memory,
+        }
     }
 }
 

@@ -1,8 +1,8 @@
-use Rattle.std.proofs.Common.{rules, ◌≡◌, ◌∙◌, ap, sym, subst, map, List, []}
+use Rattle.std.proofs.Common.{rules, ◌∙◌, ap, sym, subst, map, []}
 use Rattle.std.proofs.lemmas.List.{nil_from_length}
 use Rattle.std.specs.Vec.Iter.{into_iter_items}
 use Rattle.packing.specs.Calls.{new_list}
-use Rattle.runs.specs.Run.{Desk, textual, answers_of}
+use Rattle.runs.specs.Run.{textual}
 use Rattle.runs.specs.Ledger.{SumsHold}
 use Rattle.runs.specs.Newer.{unnumbered}
 use Rattle.runs.specs.Joins.{JoinsAdd}
