@@ -1,0 +1,2 @@
+pub mod Splits
+pub mod Registers

@@ -1,0 +1,4 @@
+pub mod Texts
+pub mod Target
+pub mod Calls
+pub mod Page
