@@ -12,37 +12,37 @@ pub trait PageFlags: Sized {
     fn is_soft_dirty(&self) -> bool
         ensures { result ≡ soft_dirty (word self.now) }
     {
-        self.bits() & (1 << 55) != 0
+        self.bits() >> 55 & 1 == 1
     }
 
     fn is_exclusively_mapped(&self) -> bool
         ensures { result ≡ exclusively_mapped (word self.now) }
     {
-        self.bits() & (1 << 56) != 0
+        self.bits() >> 56 & 1 == 1
     }
 
     fn is_write_protected(&self) -> bool
         ensures { result ≡ write_protected (word self.now) }
     {
-        self.bits() & (1 << 57) != 0
+        self.bits() >> 57 & 1 == 1
     }
 
     fn is_file_or_shared_anon(&self) -> bool
         ensures { result ≡ file_or_shared_anon (word self.now) }
     {
-        self.bits() & (1 << 61) != 0
+        self.bits() >> 61 & 1 == 1
     }
 
     fn is_swapped(&self) -> bool
         ensures { result ≡ swapped (word self.now) }
     {
-        self.bits() & (1 << 62) != 0
+        self.bits() >> 62 & 1 == 1
     }
 
     fn is_present(&self) -> bool
         ensures { result ≡ present (word self.now) }
     {
-        self.bits() & (1 << 63) != 0
+        self.bits() >> 63 & 1 == 1
     }
 }
 
