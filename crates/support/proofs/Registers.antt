@@ -8,7 +8,6 @@ use Rattle.sources.specs.declared.reason.Reason.TheVariants.{Short}
 use Rattle.sources.specs.declared.number.Radix.TheVariants.{Decimal}
 use Rattle.sources.specs.Faults.{fault, as_fault, and_then}
 use Rattle.sources.specs.Number.{signed}
-use Rattle.support.specs.declared.syscall.Syscall.{Syscall}
 use Rattle.support.specs.declared.syscall.Syscall.TheVariants.{Blocked}
 use Rattle.support.specs.Calls.{blocked_of, first_of, register_of, registers_of, read_first}
 

@@ -2,3 +2,4 @@ pub mod Texts
 pub mod Target
 pub mod Calls
 pub mod Page
+pub mod Samples

@@ -2,6 +2,7 @@
 #![tactic(auto)]
 
 pub mod page;
+pub mod samples;
 pub mod syscall;
 pub mod target;
 mod text;

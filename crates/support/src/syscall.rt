@@ -68,10 +68,7 @@ fn register(pieces: &mut Pieces) -> Result<u64, Fault>
     ensures { (result, left pieces.new) ≡ read_first (left pieces.old) }
 {
     let piece = pieces.next().ok_or(Fault::new(Reason::Short))?;
-    Ok(FromStrRadix::from_str_radix(
-        unprefixed(piece),
-        Radix::Hexadecimal,
-    )?)
+    Ok(FromStrRadix::from_str_radix(unprefixed(piece), Radix::Hexadecimal)?)
 }
 
 // The next eight pieces, as registers.

@@ -1,12 +1,10 @@
 use Rattle.std.proofs.Common.{◌≡◌, rules, ℕ, to_z, of_z, w64, List, Some, Ok, Option, ap, sym, ◌∙◌, Bor}
-use Rattle.std.specs.Option.{option_map, ok_or}
-use Rattle.sources.specs.declared.fault.Fault.{Fault}
+use Rattle.std.specs.Option.{option_map}
 use Rattle.sources.specs.declared.number.Radix.TheVariants.{Decimal}
 use Rattle.sources.specs.Faults.{as_fault}
 use Rattle.sources.specs.Number.{signed}
 use Rattle.sources.specs.Pieces.{bytes_of}
 use Rattle.support.specs.Calls.{left, first_of, pieces_of}
-use Rattle.support.specs.declared.syscall.Syscall.TheVariants.{Blocked}
 use Rattle.support.proofs.Registers.{blocked_good, some_from_ok}
 use Rattle.support.proofs.syscall.blocked.Goals as goal
 

@@ -13,7 +13,8 @@ returns-in_err-place c =
     (ap (λ (r : Result ℕ Fault). (r, left c.register.new.pieces)) (sym c.in_err-place.was) ∙ c.register.ensures))
 
 pub loop-place-preserved : goal.loop-place-preserved
-loop-place-preserved c =
-    (length-set c.loop-place.place-items c.loop-place.place-index _ ∙ c.loop-place.invariant.0,
-    turn_good _ c.loop-place.place-items c.loop-place.place-index c.in_ok-place.field-0 _ (left c.register.new.pieces) c.loop-place.invariant.0 (omega arith) c.loop-place.invariant.1
-    (ap (λ (r : Result ℕ Fault). (r, left c.register.new.pieces)) (sym c.in_ok-place.was) ∙ c.register.ensures))
+loop-place-preserved c = (
+  length-set c.loop-place.place-items c.loop-place.place-index _ ∙ c.loop-place.invariant.0,
+  turn_good _ c.loop-place.place-items c.loop-place.place-index c.in_ok-place.field-0 _ (left c.register.new.pieces) c.loop-place.invariant.0 (omega arith) c.loop-place.invariant.1
+      (ap (λ (r : Result ℕ Fault). (r, left c.register.new.pieces)) (sym c.in_ok-place.was) ∙ c.register.ensures),
+)

@@ -1,4 +1,4 @@
-use Rattle.std.proofs.Common.{◌≡◌, ℕ, ◌-◌, take, length}
+use Rattle.std.proofs.Common.{◌≡◌, ◌-◌, take, length}
 use Rattle.support.specs.Calls.{left, registers_of}
 use Rattle.support.proofs.Registers.{behind}
 use Rattle.support.proofs.syscall.registers.Given as goal
