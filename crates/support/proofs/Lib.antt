@@ -1,2 +1,3 @@
 pub mod Splits
 pub mod Registers
+pub mod Written
