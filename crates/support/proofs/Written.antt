@@ -3,7 +3,8 @@ use Rattle.std.proofs.Common.{◌≡◌, ℕ, Bool, true, false, cond, eqb, List
 use mathlib.Core.List.{reverse-append, reverse-reverse}
 use Rattle.std.specs.Option.{option_map}
 use Rattle.std.specs.Str.{bytes_eq}
-use Rattle.std.specs.Prelude.{is_some}
+use Rattle.std.specs.Prelude.{is_some, IfOk}
+use Rattle.support.specs.declared.target.FDTarget.{FDTarget}
 use Rattle.std.proofs.lemmas.Slice.Eq.{bytes_eq-Decides}
 use Rattle.sources.specs.declared.fault.Fault.{Fault}
 use Rattle.sources.specs.declared.number.Radix.TheVariants.{Decimal}
@@ -12,7 +13,7 @@ use Rattle.sources.specs.Faults.{and_then, as_fault, fault}
 use Rattle.sources.specs.Number.{unsigned}
 use Rattle.sources.specs.Pieces.{case_of, cut, past, shorn}
 use Rattle.sources.specs.declared.reason.Reason.TheVariants.{Bracket}
-use Rattle.support.specs.Target.{Target, path, socket, net, pipe, anon_inode, memfd, other, unknown, bracketed, held_inode, inode_of, foreign_of, typed_of, bare_of, target_of}
+use Rattle.support.specs.Target.{Target, path, socket, net, pipe, anon_inode, memfd, seen, told, held_inode, inode_of, foreign_of, typed_of, bare_of, target_of}
 use Rattle.support.specs.Written.{HasInode, IsWritten}
 
 -- The parts that a text is cut into are the text.
@@ -39,7 +40,7 @@ cut_sound : (c : ℕ) (bs front rest : List ℕ) → cut c bs ≡ Some (front, r
 cut_sound c [] front rest e = cc
 cut_sound c (x ∷ xs) front rest e = at (eqb x c) refl (cut c xs) (λ f r. cut_sound c xs f r) e
   where
-    at : (q : Bool) → eqb x c ≡ q → (o : Option (List ℕ × List ℕ)) → ((f r : List ℕ) → o ≡ Some (f, r) → xs ≡ f ++ (c ∷ r)) → cond q (Some ([], xs)) (option_map (λ p. (x ∷ p.0, p.1)) o) ≡ Some (front, rest) → x ∷ xs ≡ front ++ (c ∷ rest)
+    at : (q : Bool) → eqb x c ≡ q → (o : Option (List ℕ × List ℕ)) → ((f r : List ℕ) → o ≡ Some (f, r) → xs ≡ f ++ (c ∷ r)) → cond {A = Option (List ℕ × List ℕ)} q (Some ([], xs)) (option_map (λ p. (x ∷ p.0, p.1)) o) ≡ Some (front, rest) → x ∷ xs ≡ front ++ (c ∷ rest)
     at true t o h e =
         let k = eqb-true x c t in
         let i : ◌≡◌ {A = List ℕ × List ℕ} ([], xs) (front, rest) = cc in
@@ -76,6 +77,7 @@ inode_sound rest n e = at (past (codes "[") rest) refl e
     inner : (r : List ℕ) → rest ≡ codes "[" ++ r → (o : Option (List ℕ)) → shorn (codes "]") r ≡ o → case_of o (Err (fault Bracket)) held_inode ≡ Ok n → Held n rest
     inner r h None f e = cc
     inner r h (Some digits) f e = record { digits = digits; written = h ∙ ap (λ xs. codes "[" ++ xs) (shorn_sound (codes "]") r digits f); read = held_sound digits n e }
+
     at : (o : Option (List ℕ)) → past (codes "[") rest ≡ o → case_of (case_of o None (shorn (codes "]"))) (Err (fault Bracket)) held_inode ≡ Ok n → Held n rest
     at None f e = cc
     at (Some r) f e = inner r (past_sound (codes "[") rest r f) (shorn (codes "]") r) refl e
@@ -84,10 +86,10 @@ inode_written : (kind rest : List ℕ) (n : ℕ) → Held n rest → HasInode ki
 inode_written kind rest n h = record { digits = h.digits; written = ap (λ xs. kind ++ (58 ∷ xs)) h.written; read = h.read }
 
 -- One test of a type.
-pick : (kind word : List ℕ) (yes no : Result Target Fault) (t : Target) (P : Type 0) → (kind ≡ word → yes ≡ Ok t → P) → (no ≡ Ok t → P) → cond (bytes_eq kind word) yes no ≡ Ok t → P
-pick kind word yes no t P f g e = at (bytes_eq kind word) refl e
+pick : (kind word : List ℕ) (same behind : Result Target Fault) (t : Target) (P : Type 0) → (kind ≡ word → same ≡ Ok t → P) → (behind ≡ Ok t → P) → cond (bytes_eq kind word) same behind ≡ Ok t → P
+pick kind word same behind t P f g e = at (bytes_eq kind word) refl e
   where
-    at : (q : Bool) → bytes_eq kind word ≡ q → cond q yes no ≡ Ok t → P
+    at : (q : Bool) → bytes_eq kind word ≡ q → cond q same behind ≡ Ok t → P
     at true h e = f ((bytes_eq-Decides kind word).0 h) e
     at false h e = g e
 
@@ -130,6 +132,11 @@ target_written bs t e = at (past (codes "/memfd:") bs) refl e
     rooted : (q : Bool) → cond q (Ok (path bs)) (bare_of bs) ≡ Ok t → IsWritten t bs
     rooted true e = let i : path bs ≡ t = cc in rw (← i) refl
     rooted false e = bare_written bs t e
+
     at : (o : Option (List ℕ)) → past (codes "/memfd:") bs ≡ o → case_of o (cond (is_some (past (codes "/") bs)) (Ok (path bs)) (bare_of bs)) (λ name. Ok (memfd name)) ≡ Ok t → IsWritten t bs
     at None h e = rooted (is_some (past (codes "/") bs)) e
     at (Some name) h e = let i : memfd name ≡ t = cc in rw (← i) (past_sound (codes "/memfd:") bs name h)
+
+pub seen_written : (bs : List ℕ) (r : Result FDTarget Fault) → seen r ≡ target_of bs → IfOk r (λ t. IsWritten (told t) bs)
+seen_written bs (Ok t) e = target_written bs (told t) (sym e)
+seen_written bs (Err f) e = tt

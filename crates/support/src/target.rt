@@ -1,7 +1,8 @@
-ghost use Rattle.std.specs.Prelude.{◌≡◌};
+ghost use Rattle.std.specs.Prelude.{◌≡◌, IfOk};
 ghost use Rattle.std.specs.Option.{option_map};
 ghost use Rattle.sources.specs.Pieces.{bytes_of};
-ghost use Rattle.support.specs.Target.{bracketed as bracketed_of, inode_of, seen, seen_in, target_in, target_of, typed_of};
+ghost use Rattle.support.specs.Target.{bracketed as bracketed_of, inode_of, seen, seen_in, target_in, target_of, told, typed_of};
+ghost use Rattle.support.specs.Written.{IsWritten};
 
 use crate::text::text;
 use sources::fault::{Fault, Refusal, at_line};
@@ -59,7 +60,8 @@ fn read_typed<'a>(kind: &'a str, rest: &'a str) -> Result<FDTarget<'a>, Fault>
 impl<'a> FDTarget<'a> {
     // The Rust's name, and no FromStr, whose answer couldn't borrow the text.
     pub fn from_str(text: &'a str) -> Result<FDTarget<'a>, Fault>
-        ensures { seen result ≡ target_of text.now }
+        ensures reading { seen result ≡ target_of text.now }
+        ensures written { IfOk result (λ t. IsWritten (told t) text.now) }
     {
         if let Some(name) = past(text, "/memfd:") {
             return Ok(FDTarget::MemFD(name));
