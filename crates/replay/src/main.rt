@@ -122,9 +122,9 @@ fn main(rt: HostRuntime) -> anyhow::Result<()> {
             "measure" => read = measure_answer,
             "status" => read = status_text::answer,
             "limits" => read = limits_text::answer,
-            "target" => read = support_text::target,
-            "syscall" => read = support_text::syscall,
-            "page" => read = support_text::page,
+            "target" => read = support_text::target_answer,
+            "syscall" => read = support_text::syscall_answer,
+            "page" => read = support_text::page_answer,
             name => replay(&rt, read, name)?,
         }
     }

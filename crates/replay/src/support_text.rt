@@ -39,7 +39,7 @@ impl Display for Target<'_> {
     }
 }
 
-pub fn target(heap: Global, text: &[u8]) -> Result<Answer, AllocError> {
+pub fn target_answer(heap: Global, text: &[u8]) -> Result<Answer, AllocError> {
     match FDTarget::from_bytes(text) {
         Ok(target) => record_answer(heap, Ok(()), Target(target)),
         Err(refusal) => record_answer(heap, Err(refusal), ""),
@@ -69,7 +69,7 @@ impl Display for Call {
     }
 }
 
-pub fn syscall(heap: Global, text: &[u8]) -> Result<Answer, AllocError> {
+pub fn syscall_answer(heap: Global, text: &[u8]) -> Result<Answer, AllocError> {
     match Syscall::from_bytes(text) {
         Ok(call) => record_answer(heap, Ok(()), Call(call)),
         Err(refusal) => record_answer(heap, Err(refusal), ""),
@@ -103,11 +103,22 @@ impl Display for Page {
     fn fmt<W: fmt::Write>(&self, f: &mut Formatter<W>) -> fmt::Result {
         match self.0 {
             PageInfo::MemoryPage(page) => {
-                write!(f, " memory {} {}", page.bits(), page.get_page_frame_number())?;
+                write!(
+                    f,
+                    " memory {} {}",
+                    page.bits(),
+                    page.get_page_frame_number()
+                )?;
                 write!(f, "{}", Bits(page))
             }
             PageInfo::SwapPage(page) => {
-                write!(f, " swap {} {} {}", page.bits(), page.get_swap_type(), page.get_swap_offset())?;
+                write!(
+                    f,
+                    " swap {} {} {}",
+                    page.bits(),
+                    page.get_swap_type(),
+                    page.get_swap_offset()
+                )?;
                 write!(f, "{}", Bits(page))
             }
         }
@@ -123,6 +134,6 @@ fn word(text: &[u8]) -> u64 {
     u64::from_le_bytes(bytes)
 }
 
-pub fn page(heap: Global, text: &[u8]) -> Result<Answer, AllocError> {
+pub fn page_answer(heap: Global, text: &[u8]) -> Result<Answer, AllocError> {
     record_answer(heap, Ok(()), Page(PageInfo::parse_info(word(text))))
 }

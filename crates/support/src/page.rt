@@ -1,4 +1,4 @@
-ghost use Rattle.std.specs.Prelude.{◌≡◌, ℕ};
+ghost use Rattle.std.specs.Prelude.{◌≡◌, ℕ, ◌<◌, ◌^◌};
 ghost use Rattle.support.specs.Page.{page_frame_number, page_of, soft_dirty, exclusively_mapped, write_protected, file_or_shared_anon, swapped, present, swap_offset, swap_type, memory_word, swap_word};
 
 // What a word says whether it is of a page in memory or of a swapped one.
@@ -82,7 +82,8 @@ impl PageFlags for SwapPageFlags {
 
 impl MemoryPageFlags {
     pub fn get_page_frame_number(&self) -> u64
-        ensures { result ≡ page_frame_number self.now.bits }
+        ensures value { result ≡ page_frame_number self.now.bits }
+        ensures fits { result < 2 ^ 55 }
     {
         self.bits & ((1 << 55) - 1)
     }
@@ -90,13 +91,15 @@ impl MemoryPageFlags {
 
 impl SwapPageFlags {
     pub fn get_swap_type(&self) -> u64
-        ensures { result ≡ swap_type self.now.bits }
+        ensures value { result ≡ swap_type self.now.bits }
+        ensures fits { result < 2 ^ 5 }
     {
         self.bits & ((1 << 5) - 1)
     }
 
     pub fn get_swap_offset(&self) -> u64
-        ensures { result ≡ swap_offset self.now.bits }
+        ensures value { result ≡ swap_offset self.now.bits }
+        ensures fits { result < 2 ^ 50 }
     {
         self.bits >> 5 & ((1 << 50) - 1)
     }
