@@ -11,10 +11,11 @@ use Rattle.sources.specs.declared.number.Radix.TheVariants.{Decimal}
 use Rattle.sources.specs.declared.fault.NumberFault.{NumberFault}
 use Rattle.sources.specs.Faults.{and_then, as_fault, fault}
 use Rattle.sources.specs.Number.{unsigned}
+use Rattle.sources.proofs.Ends.{shorn-some}
 use Rattle.sources.specs.Pieces.{case_of, cut, past, shorn}
 use Rattle.sources.specs.declared.reason.Reason.TheVariants.{Bracket}
-use Rattle.support.specs.Target.{Target, path, socket, net, pipe, anon_inode, memfd, seen, told, held_inode, inode_of, foreign_of, typed_of, bare_of, target_of}
-use Rattle.support.specs.Written.{HasInode, IsWritten}
+use Rattle.support.specs.Target.{Target, path, socket, net, pipe, anon_inode, memfd, other, unknown, seen, told, held_inode, inode_of, foreign_of, typed_of, bare_of, target_of}
+use Rattle.support.specs.Written.{HasInode, IsWritten, is_plain}
 
 -- The parts that a text is cut into are the text.
 past_sound : (p bs r : List ℕ) → past p bs ≡ Some r → bs ≡ p ++ r
@@ -140,3 +141,21 @@ target_written bs t e = at (past (codes "/memfd:") bs) refl e
 pub seen_written : (bs : List ℕ) (r : Result FDTarget Fault) → seen r ≡ target_of bs → IfOk r (λ t. IsWritten (told t) bs)
 seen_written bs (Ok t) e = target_written bs (told t) (sym e)
 seen_written bs (Err f) e = tt
+
+-- A plain target that is written out is read as that target.
+inode_back : (digits : List ℕ) (n : ℕ) → unsigned 64 Decimal digits ≡ Ok n → inode_of (codes "[" ++ (digits ++ codes "]")) ≡ Ok n
+inode_back [] n e = cc
+inode_back (d ∷ ds) n e = rw (shorn-some (codes "]") (d ∷ ds)) (ap as_fault e)
+
+pub written_back : (t : Target) (bs : List ℕ) → is_plain t ≡ true → IsWritten t bs → target_of bs ≡ Ok t
+written_back (path name) bs p h = cc
+written_back (socket n) bs p h = ap target_of h.written ∙ ap (λ (o : Result ℕ Fault). and_then o (λ n. Ok (socket n))) (inode_back h.digits n h.read)
+written_back (net n) bs p h = ap target_of h.written ∙ ap (λ (o : Result ℕ Fault). and_then o (λ n. Ok (net n))) (inode_back h.digits n h.read)
+written_back (pipe n) bs p h = ap target_of h.written ∙ ap (λ (o : Result ℕ Fault). and_then o (λ n. Ok (pipe n))) (inode_back h.digits n h.read)
+written_back (anon_inode rest) bs p h = ap target_of h
+written_back (memfd name) bs p h = ap target_of h
+written_back (other kind n) bs p h = cc
+written_back (unknown kind rest) bs p h = cc
+
+pub seen_back : (bs : List ℕ) (r : Result FDTarget Fault) → seen r ≡ target_of bs → (t : Target) → is_plain t ≡ true → IsWritten t bs → seen r ≡ Ok t
+seen_back bs r e t p h = e ∙ written_back t bs p h

@@ -1,5 +1,5 @@
--- What a target is written as, as a law on what is read: an accepted text is its target written out, and nothing else.
-use Rattle.std.specs.Prelude.{◌≡◌, ℕ, List, ◌++◌, Ok, codes}
+-- What a target is written as, for two laws: an accepted text is its target written out, and a plain target written out is read as that target.
+use Rattle.std.specs.Prelude.{◌≡◌, ℕ, Bool, true, false, List, ◌++◌, Ok, codes}
 use Rattle.sources.specs.declared.number.Radix.TheVariants.{Decimal}
 use Rattle.sources.specs.Number.{unsigned}
 use Rattle.support.specs.Target.{Target, path, socket, net, pipe, anon_inode, memfd, other, unknown}
@@ -19,3 +19,14 @@ IsWritten (anon_inode rest) text = text ≡ codes "anon_inode:" ++ rest
 IsWritten (memfd name) text = text ≡ codes "/memfd:" ++ name
 IsWritten (other kind n) text = HasInode kind n text
 IsWritten (unknown kind rest) text = text ≡ kind ++ (codes ":" ++ rest)
+
+-- A target that its text tells by itself, whatever stands in it: no path, and none of a type of its own.
+abbrev pub is_plain : Target → Bool
+is_plain (path name) = false
+is_plain (socket n) = true
+is_plain (net n) = true
+is_plain (pipe n) = true
+is_plain (anon_inode rest) = true
+is_plain (memfd name) = true
+is_plain (other kind n) = false
+is_plain (unknown kind rest) = false

@@ -1,8 +1,8 @@
-ghost use Rattle.std.specs.Prelude.{◌≡◌, IfOk};
+ghost use Rattle.std.specs.Prelude.{◌≡◌, true, IfOk};
 ghost use Rattle.std.specs.Option.{option_map};
 ghost use Rattle.sources.specs.Pieces.{bytes_of};
-ghost use Rattle.support.specs.Target.{bracketed as bracketed_of, inode_of, seen, seen_in, target_in, target_of, told, typed_of};
-ghost use Rattle.support.specs.Written.{IsWritten};
+ghost use Rattle.support.specs.Target.{Target, bracketed as bracketed_of, inode_of, seen, seen_in, target_in, target_of, told, typed_of};
+ghost use Rattle.support.specs.Written.{IsWritten, is_plain};
 
 use crate::text::text;
 use sources::fault::{Fault, Refusal, at_line};
@@ -62,6 +62,7 @@ impl<'a> FDTarget<'a> {
     pub fn from_str(text: &'a str) -> Result<FDTarget<'a>, Fault>
         ensures reading { seen result ≡ target_of text.now }
         ensures written { IfOk result (λ t. IsWritten (told t) text.now) }
+        ensures read { (t : Target) → is_plain t ≡ true → IsWritten t text.now → seen result ≡ Ok t }
     {
         if let Some(name) = past(text, "/memfd:") {
             return Ok(FDTarget::MemFD(name));
