@@ -1,5 +1,5 @@
 -- The system call that a process is blocked in: its number, six arguments, the stack pointer and the program counter. After proc(5), /proc/pid/syscall.
-use Rattle.std.specs.Prelude.{ℕ, zero, suc, cond, List, [], ◌∷◌, length, take, None, Some, Ok, Err, codes, Option, Result, ◌==◌, slice_index, nat_lt}
+use Rattle.std.specs.Prelude.{ℕ, zero, suc, cond, List, [], ◌∷◌, length, ℤ, None, Some, Ok, Err, codes, Option, Result, ◌==◌, slice_index, nat_lt}
 use Rattle.std.specs.List.{slice_split}
 use Rattle.std.specs.Option.{unwrap_or}
 use Rattle.std.specs.Str.{bytes_eq}
@@ -36,9 +36,14 @@ unprefixed p = unwrap_or (past (codes "0x") p) (unwrap_or (past (codes "0X") p) 
 abbrev pub register_of : List ℕ → Result ℕ Fault
 register_of p = as_fault (unsigned 64 Hexadecimal (unprefixed p))
 
-abbrev pub read_first : List (List ℕ) → Result ℕ Fault × List (List ℕ)
-read_first [] = (Err (fault Short), [])
-read_first (p ∷ ps) = (register_of p, ps)
+-- The number of a call: 64 bits in base 10, with a sign.
+abbrev pub number_of : List ℕ → Result ℤ Fault
+number_of p = as_fault (signed 63 Decimal p)
+
+-- What the first piece reads as, and the pieces behind it.
+abbrev pub read_first : {X : Type 0} → (List ℕ → Result X Fault) → List (List ℕ) → Result X Fault × List (List ℕ)
+read_first R [] = (Err (fault Short), [])
+read_first R (p ∷ ps) = (R p, ps)
 
 -- The first n pieces, a register each. They are judged in order, so a bad one is told before one that is missing.
 abbrev pub registers_of : ℕ → List (List ℕ) → Result (List ℕ) Fault
@@ -46,13 +51,17 @@ registers_of zero ps = Ok []
 registers_of (suc n) [] = Err (fault Short)
 registers_of (suc n) (p ∷ ps) = and_then (register_of p) (λ r. and_then (registers_of n ps) (λ rs. Ok (r ∷ rs)))
 
+-- The first six registers are the arguments.
+abbrev pub six : List ℕ → List ℕ
+six rs = slice_index rs 0 ∷ slice_index rs 1 ∷ slice_index rs 2 ∷ slice_index rs 3 ∷ slice_index rs 4 ∷ slice_index rs 5 ∷ []
+
 -- A number in base 10, and then eight registers; what stands behind them is ignored.
 abbrev pub blocked_of : List (List ℕ) → Result Syscall Fault
 blocked_of [] = Err (fault Short)
 blocked_of (p ∷ ps) =
-    and_then (as_fault (signed 63 Decimal p)) (λ number.
+    and_then (number_of p) (λ number.
     and_then (registers_of 8 ps) (λ rs.
-    Ok (Blocked number (take 6 rs) (slice_index rs 6) (slice_index rs 7))))
+    Ok (Blocked number (six rs) (slice_index rs 6) (slice_index rs 7))))
 
 -- A text without white space around it.
 abbrev pub line_of : List ℕ → Result Syscall Fault

@@ -1,7 +1,7 @@
 ghost use Rattle.std.specs.Prelude.{◌≡◌};
 ghost use Rattle.std.specs.Option.{option_map};
 ghost use Rattle.sources.specs.Pieces.{bytes_of};
-ghost use Rattle.support.specs.Calls.{blocked_of, call_in, call_of, first_of, left, pieces_of, read_first, registers_of, unprefixed as unprefixed_of};
+ghost use Rattle.support.specs.Calls.{blocked_of, call_in, call_of, first_of, left, number_of, pieces_of, read_first, register_of, registers_of, unprefixed as unprefixed_of};
 
 use crate::text::text;
 use sources::fault::{Fault, Refusal, at_line};
@@ -63,9 +63,17 @@ fn unprefixed(piece: &str) -> &str
     past(piece, "0x").or(past(piece, "0X")).unwrap_or(piece)
 }
 
+// The next piece, as the number of a call.
+fn number(pieces: &mut Pieces) -> Result<i64, Fault>
+    ensures { (result, left pieces.new) ≡ read_first number_of (left pieces.old) }
+{
+    let piece = pieces.next().ok_or(Fault::new(Reason::Short))?;
+    Ok(FromStrRadix::from_str_radix(piece, Radix::Decimal)?)
+}
+
 // The next piece, as a register.
 fn register(pieces: &mut Pieces) -> Result<u64, Fault>
-    ensures { (result, left pieces.new) ≡ read_first (left pieces.old) }
+    ensures { (result, left pieces.new) ≡ read_first register_of (left pieces.old) }
 {
     let piece = pieces.next().ok_or(Fault::new(Reason::Short))?;
     Ok(FromStrRadix::from_str_radix(unprefixed(piece), Radix::Hexadecimal)?)
@@ -83,12 +91,12 @@ fn registers(pieces: &mut Pieces) -> Result<[u64; 8], Fault>
 }
 
 // The pieces of a process that does not run.
+#[tactic(auto, using(crate::proofs::Registers::blocked_by))]
 fn blocked(text: &str) -> Result<Syscall, Fault>
     ensures { result ≡ blocked_of (pieces_of text.now) }
 {
     let mut pieces = Pieces::new(text);
-    let number = pieces.next().ok_or(Fault::new(Reason::Short))?;
-    let syscall_number = FromStrRadix::from_str_radix(number, Radix::Decimal)?;
+    let syscall_number = number(&mut pieces)?;
     let [a, b, c, d, e, f, stack_pointer, program_counter] = registers(&mut pieces)?;
     Ok(Syscall::Blocked {
         syscall_number,

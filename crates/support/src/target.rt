@@ -59,6 +59,7 @@ fn read_typed<'a>(kind: &'a str, rest: &'a str) -> Result<FDTarget<'a>, Fault>
 
 impl<'a> FDTarget<'a> {
     // The Rust's name, and no FromStr, whose answer couldn't borrow the text.
+    #[tactic(auto, using(crate::proofs::Written::seen_back))]
     pub fn from_str(text: &'a str) -> Result<FDTarget<'a>, Fault>
         ensures reading { seen result ≡ target_of text.now }
         ensures written { IfOk result (λ t. IsWritten (told t) text.now) }
