@@ -1,4 +1,4 @@
-//! Writes status or limits texts with the answers that our library has to give. One case a line: the
+//! Writes texts of a reading (status, limits, target, syscall or page) with the answers that our library has to give. One case a line: the
 //! text, in which `\\` is a backslash and `\x` with two base-16 digits a byte, a tab, then "ok" with the
 //! fields, or "refused" with number, line and field.
 //!
@@ -15,6 +15,7 @@ mod limits;
 mod machine;
 mod record;
 mod status;
+mod support;
 
 use damage::damaged;
 use dice::Dice;
@@ -36,6 +37,9 @@ fn main() -> ExitCode {
     let reading = match words.get(1) {
         Some(&"status") => Some(status::reading()),
         Some(&"limits") => Some(limits::reading()),
+        Some(&"target") => Some(support::target()),
+        Some(&"syscall") => Some(support::syscall()),
+        Some(&"page") => Some(support::page()),
         _ => None,
     };
     // procfs-core's panics are answers here.
@@ -66,8 +70,8 @@ fn main() -> ExitCode {
 }
 
 fn usage() -> ExitCode {
-    eprintln!("usage: list status|limits FILE [COUNT [SEED]]");
-    eprintln!("       sample status|limits FILE [N]");
+    eprintln!("usage: list status|limits|target|syscall|page FILE [COUNT [SEED]]");
+    eprintln!("       sample status|limits|target|syscall|page FILE [N]");
     ExitCode::from(2)
 }
 

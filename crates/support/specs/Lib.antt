@@ -1,0 +1,6 @@
+pub mod Texts
+pub mod Target
+pub mod Calls
+pub mod Page
+pub mod Samples
+pub mod Written

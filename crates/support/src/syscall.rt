@@ -1,0 +1,128 @@
+ghost use Rattle.std.specs.Prelude.{◌≡◌};
+ghost use Rattle.std.specs.Option.{option_map};
+ghost use Rattle.sources.specs.Pieces.{bytes_of};
+ghost use Rattle.support.specs.Calls.{blocked_of, call_in, call_of, first_of, left, number_of, pieces_of, read_first, register_of, registers_of, unprefixed as unprefixed_of};
+
+use crate::text::text;
+use sources::fault::{Fault, Refusal, at_line};
+use sources::number::{FromStrRadix, Radix};
+use sources::pieces::{cut, past, trimmed};
+use sources::reason::Reason;
+
+// The most bytes that a system call's text may have.
+const MAX_TEXT: usize = 4096;
+
+// Whether a process is blocked, and in which system call.
+#[derive(Clone, Copy, PartialEq, Eq, Debug)]
+pub enum Syscall {
+    Running,
+    Blocked {
+        syscall_number: i64,
+        argument_registers: [u64; 6],
+        stack_pointer: u64,
+        program_counter: u64,
+    },
+}
+
+// The pieces of a text between single spaces that are still to come.
+#[derive(Clone, Copy)]
+struct Pieces<'a> {
+    rest: Option<&'a str>,
+}
+
+impl<'a> Pieces<'a> {
+    fn new(text: &'a str) -> Pieces<'a>
+        ensures { left result ≡ pieces_of text.now }
+    {
+        Pieces { rest: Some(text) }
+    }
+
+    // The next piece, if there is one.
+    #[tactic(auto, using(crate::proofs::Splits::pieces_cut))]
+    fn next(&mut self) -> Option<&'a str>
+        ensures { (option_map bytes_of result, left self.new) ≡ first_of (left self.old) }
+    {
+        let text = self.rest?;
+        match cut(text, ' ') {
+            None => {
+                self.rest = None;
+                Some(text)
+            }
+            Some((piece, rest)) => {
+                self.rest = Some(rest);
+                Some(piece)
+            }
+        }
+    }
+}
+
+// A number without the prefix of base 16, if it has one.
+fn unprefixed(piece: &str) -> &str
+    ensures { result.now ≡ unprefixed_of piece.now }
+{
+    past(piece, "0x").or(past(piece, "0X")).unwrap_or(piece)
+}
+
+// The next piece, as the number of a call.
+fn number(pieces: &mut Pieces) -> Result<i64, Fault>
+    ensures { (result, left pieces.new) ≡ read_first number_of (left pieces.old) }
+{
+    let piece = pieces.next().ok_or(Fault::new(Reason::Short))?;
+    Ok(FromStrRadix::from_str_radix(piece, Radix::Decimal)?)
+}
+
+// The next piece, as a register.
+fn register(pieces: &mut Pieces) -> Result<u64, Fault>
+    ensures { (result, left pieces.new) ≡ read_first register_of (left pieces.old) }
+{
+    let piece = pieces.next().ok_or(Fault::new(Reason::Short))?;
+    Ok(FromStrRadix::from_str_radix(unprefixed(piece), Radix::Hexadecimal)?)
+}
+
+// The next eight pieces, as registers.
+fn registers(pieces: &mut Pieces) -> Result<[u64; 8], Fault>
+    ensures { result ≡ registers_of 8 (left pieces.old) }
+{
+    let mut registers = [0; 8];
+    for place in registers.iter_mut() {
+        *place = register(pieces)?;
+    }
+    Ok(registers)
+}
+
+// The pieces of a process that does not run.
+#[tactic(auto, using(crate::proofs::Registers::blocked_by))]
+fn blocked(text: &str) -> Result<Syscall, Fault>
+    ensures { result ≡ blocked_of (pieces_of text.now) }
+{
+    let mut pieces = Pieces::new(text);
+    let syscall_number = number(&mut pieces)?;
+    let [a, b, c, d, e, f, stack_pointer, program_counter] = registers(&mut pieces)?;
+    Ok(Syscall::Blocked {
+        syscall_number,
+        argument_registers: [a, b, c, d, e, f],
+        stack_pointer,
+        program_counter,
+    })
+}
+
+// A text without white space around it.
+fn read(bytes: &[u8]) -> Result<Syscall, Fault>
+    ensures { result ≡ call_of bytes.now }
+{
+    if bytes.len() > MAX_TEXT {
+        return Err(Fault::new(Reason::LongLine));
+    }
+    match trimmed(text(bytes)?) {
+        "running" => Ok(Syscall::Running),
+        line => blocked(line),
+    }
+}
+
+impl Syscall {
+    pub fn from_bytes(bytes: &[u8]) -> Result<Syscall, Refusal>
+        ensures { result ≡ call_in bytes.now }
+    {
+        at_line(read(bytes), 0)
+    }
+}
