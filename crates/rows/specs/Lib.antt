@@ -1,0 +1,6 @@
+pub mod Cells
+pub mod Paths
+pub mod Rows
+pub mod Flags
+pub mod Entries
+pub mod Sorts
