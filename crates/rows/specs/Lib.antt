@@ -4,3 +4,4 @@ pub mod Rows
 pub mod Flags
 pub mod Entries
 pub mod Sorts
+pub mod Tables
