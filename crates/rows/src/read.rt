@@ -1,13 +1,11 @@
-ghost use Rattle.std.specs.Prelude.{◌≡◌, length, false, refl, Result as ResultOf};
-
-ghost use Rattle.std.specs.Result.{result_err, result_map_both};
-
-ghost use Rattle.rows.specs.Tables.{tables, passed, valued, told, after_sort};
+ghost use Rattle.std.specs.Prelude.{◌≡◌, refl};
+ghost use Rattle.sources.specs.declared.kind.Break.TheVariants.{Refuses};
+ghost use Rattle.rows.specs.Tables.{Filled, filled, tables, passed, valued, told, after_sort, fresh, row_rules, has_begun, is_foreign, refusal_stays, foreign_aside, begins_with_any, rows_of};
 
 use crate::entry::{Entry, spot};
 use crate::row::Row;
 use crate::sort::{Saying, Sort, sort_of};
-use crate::table::{blank, last, push_at, set_at, used};
+use crate::table::{Lent, blank, last};
 use sources::drive::fill;
 use sources::fault::{Fault, Refusal};
 use sources::kind::{Break, Finish, Kind};
@@ -42,25 +40,27 @@ impl Marks {
 }
 
 // A value for the last row, which is `row`: in the entry of its key, or in one more.
-fn put_value(
-    rows: &mut [Row],
-    entries: &mut [Entry],
+fn put_value<R: Lent<Row>, E: Lent<Entry>>(
+    rows: &mut R,
+    entries: &mut E,
     marks: Marks,
     row: Row,
     entry: Entry,
 ) -> Result<Marks, Fault>
-    ensures { result_map_both (tables rows.new entries.new) (λ f. f) result ≡ valued entry row (tables rows.old entries.old marks) }
+    ensures makes { filled (R.held rows.new) (E.held entries.new) result ≡ valued entry row (tables (R.held rows.old) (E.held entries.old) marks) }
+    ensures rows { R.same rows.old rows.new }
+    ensures entries { E.same entries.old entries.new }
 {
-    if let Some(i) = spot(used(entries, marks.entries), row.first, &entry.key) {
-        set_at(entries, i, entry);
+    if let Some(i) = spot(entries.in_use(marks.entries), row.first, &entry.key) {
+        entries.set_at(i, entry);
         return Ok(marks);
     }
-    let count = push_at(entries, marks.entries, entry)?;
+    let count = entries.push_at(marks.entries, entry)?;
     let row = Row {
         count: count.saturating_sub(row.first),
         ..row
     };
-    set_at(rows, marks.rows.saturating_sub(1), row);
+    rows.set_at(marks.rows.saturating_sub(1), row);
     Ok(Marks {
         entries: count,
         ..marks
@@ -68,19 +68,21 @@ fn put_value(
 }
 
 // What an attribute's line makes of the tables, whose last row is `row`.
-fn tell(
-    rows: &mut [Row],
-    entries: &mut [Entry],
+fn tell<R: Lent<Row>, E: Lent<Entry>>(
+    rows: &mut R,
+    entries: &mut E,
     marks: Marks,
     row: Row,
     saying: Saying,
 ) -> Result<Marks, Fault>
-    ensures { result_map_both (tables rows.new entries.new) (λ f. f) result ≡ told saying row (tables rows.old entries.old marks) }
+    ensures makes { filled (R.held rows.new) (E.held entries.new) result ≡ told saying row (tables (R.held rows.old) (E.held entries.old) marks) }
+    ensures rows { R.same rows.old rows.new }
+    ensures entries { E.same entries.old entries.new }
 {
     match saying {
         Saying::Nothing => Ok(marks),
         Saying::Flags(flags) => {
-            set_at(rows, marks.rows.saturating_sub(1), Row { flags, ..row });
+            rows.set_at(marks.rows.saturating_sub(1), Row { flags, ..row });
             Ok(marks)
         }
         Saying::Value(entry) => put_value(rows, entries, marks, row, entry),
@@ -88,13 +90,15 @@ fn tell(
 }
 
 // What a line of a sort makes of the tables.
-fn step(
-    rows: &mut [Row],
-    entries: &mut [Entry],
+fn step<R: Lent<Row>, E: Lent<Entry>>(
+    rows: &mut R,
+    entries: &mut E,
     marks: Marks,
     sort: Sort,
 ) -> Result<Marks, Fault>
-    ensures { result_map_both (tables rows.new entries.new) (λ f. f) result ≡ after_sort sort (tables rows.old entries.old marks) }
+    ensures makes { filled (R.held rows.new) (E.held entries.new) result ≡ after_sort sort (tables (R.held rows.old) (E.held entries.old) marks) }
+    ensures rows { R.same rows.old rows.new }
+    ensures entries { E.same entries.old entries.new }
 {
     match sort {
         Sort::Mapping(row) => {
@@ -102,15 +106,101 @@ fn step(
                 first: marks.entries,
                 ..row?
             };
-            let count = push_at(rows, marks.rows, row)?;
+            let count = rows.push_at(marks.rows, row)?;
             Ok(Marks {
                 rows: count,
                 ..marks
             })
         }
         Sort::Attribute(saying) => {
-            let row = last(rows, marks.rows).ok_or(Fault::new(Reason::Orphan))?;
+            let row = last(rows.in_use(marks.rows)).ok_or(Fault::new(Reason::Orphan))?;
             tell(rows, entries, marks, row, saying?)
         }
     }
+}
+
+// The caller's cells as lines fill them, or the fault of a line that was refused. Two tables and one state, flat, so that it stays known which memory is written.
+#[derive(Drop)]
+struct Filling<R, E> {
+    rows: R,
+    entries: E,
+    state: Result<Marks, Fault>,
+}
+
+impl<R: Lent<Row>, E: Lent<Entry>> Kind for Filling<R, E> {
+    type Closed = Counts;
+
+    const BREAK: Break = Break::Refuses;
+
+    ghost BREAK = { Refuses };
+
+    ghost Meaning = { Filled };
+
+    ghost means = { λ s. filled (R.held s.rows) (E.held s.entries) s.state };
+
+    ghost rules = { row_rules };
+
+    ghost begun = { has_begun };
+
+    ghost foreign = { is_foreign };
+
+    ghost frame = { λ s t. R.same s.rows t.rows × E.same s.entries t.entries };
+
+    fn take(&mut self, line: &str) -> Result<(), Fault> {
+        let marks = self.state?;
+        let sort = sort_of(line, marks.bytes);
+        self.state = step(
+            &mut self.rows,
+            &mut self.entries,
+            marks.past(line.len()),
+            sort,
+        );
+        self.state.map(|_| ())
+    }
+
+    ghost breaks = { refl };
+
+    ghost stays = { refusal_stays };
+
+    ghost aside = { foreign_aside };
+
+    ghost begins = { begins_with_any };
+
+    ghost framed = { λ a. (R.itself a.rows, E.itself a.entries) };
+
+    ghost still = { λ a b c p q. (R.still a.rows b.rows c.rows p.0 q.0, E.still a.entries b.entries c.entries p.1 q.1) };
+}
+
+impl<R: Lent<Row>, E: Lent<Entry>> Finish for Filling<R, E> {
+    fn finish(&mut self) -> Result<Counts, Fault> {
+        self.state.map(|marks| Counts {
+            rows: marks.rows,
+            entries: marks.entries,
+        })
+    }
+}
+
+// Reads the smaps text of a source into rows and entries, and answers how many of each. A refusal blanks all cells.
+pub fn read_rows<S: Source>(
+    source: &mut S,
+    rows: &mut [Row],
+    entries: &mut [Entry],
+) -> Result<Counts, Refusal>
+    ensures { (result, rows.new, entries.new, S.text source.new) ≡ rows_of rows.old entries.old (S.text source.old) }
+{
+    let mut filling = Filling {
+        rows: &mut *rows,
+        entries: &mut *entries,
+        state: Ok(Marks {
+            rows: 0,
+            entries: 0,
+            bytes: 0,
+        }),
+    };
+    let read = fill(source, &mut filling);
+    if read.is_err() {
+        blank(rows, Row::blank());
+        blank(entries, Entry::blank());
+    }
+    read
 }

@@ -1,5 +1,5 @@
-ghost use Rattle.std.specs.Prelude.{◌≡◌, ℕ, List, length, replicate, slice_get, slice_set};
-ghost use Rattle.std.specs.Option.{option_map};
+ghost use Rattle.std.specs.Prelude.{◌≡◌, List, length, replicate, slice_set, refl};
+ghost use Rattle.std.proofs.Common.{◌∙◌};
 ghost use Rattle.std.specs.Result.{result_map_both};
 ghost use Rattle.rows.specs.Cells.{cells, used, last, pushed};
 
@@ -45,11 +45,11 @@ pub fn used<T>(held: &[T], count: usize) -> &[T]
     held.get(..count).unwrap_or(held)
 }
 
-// The last one in use.
-pub fn last<T: Copy>(held: &[T], count: usize) -> Option<T>
-    ensures { result ≡ last (cells held.now count) }
+// The last of those in use.
+pub fn last<T: Copy>(used: &[T]) -> Option<T>
+    ensures { result ≡ last used.now }
 {
-    used(held, count).last().copied()
+    used.last().copied()
 }
 
 // Writes a cell, where it is there.
@@ -59,6 +59,51 @@ pub fn set_at<T: Copy>(held: &mut [T], i: usize, item: T)
     if i < held.len() {
         held[i] = item;
     }
+}
+
+// Cells that a caller lends, as a bound: no impl for a type that names a lifetime can have a constant of a trait, as a kind has.
+pub trait Lent<T> {
+    ghost held: { Self → List T };
+
+    // The memory is the same.
+    ghost same: { Self → Self → Type 0 };
+
+    fn in_use(&self, count: usize) -> &[T]
+        ensures { result.now ≡ used (cells (held self.now) count) };
+
+    fn push_at(&mut self, count: usize, item: T) -> Result<usize, Fault>
+        ensures pushes { result_map_both (cells (held self.new)) (λ f. f) result ≡ pushed item (cells (held self.old) count) }
+        ensures same { same self.old self.new };
+
+    fn set_at(&mut self, i: usize, item: T)
+        ensures writes { held self.new ≡ slice_set (held self.old) i item }
+        ensures same { same self.old self.new };
+
+    ghost itself: { (a : Self) → same a a };
+
+    ghost still: { (a b c : Self) → same a b → same b c → same a c };
+}
+
+impl<'a, T: Copy> Lent<T> for &'a mut [T] {
+    ghost held = { λ s. s.now };
+
+    ghost same = { λ s t. (t.ghost_name ≡ s.ghost_name) × (length t.now ≡ length s.now) };
+
+    fn in_use(&self, count: usize) -> &[T] {
+        used(self, count)
+    }
+
+    fn push_at(&mut self, count: usize, item: T) -> Result<usize, Fault> {
+        push_at(self, count, item)
+    }
+
+    fn set_at(&mut self, i: usize, item: T) {
+        set_at(self, i, item);
+    }
+
+    ghost itself = { λ _. (refl, refl) };
+
+    ghost still = { λ _ _ _ p q. (q.0 ∙ p.0, q.1 ∙ p.1) };
 }
 
 // Writes one item to all cells.

@@ -1,4 +1,4 @@
-use Rattle.std.proofs.Common.{◌≡◌, ℕ, replicate, length, drop, rules}
+use Rattle.std.proofs.Common.{ℕ, length, rules}
 use Rattle.std.proofs.lemmas.List.{drop-replicate}
 use Rattle.rows.specs.Entries.{key_of}
 use Rattle.rows.proofs.entry.key_of.Goals as goal

@@ -1,4 +1,4 @@
-use Rattle.std.proofs.Common.{◌≡◌, ◌∙◌, sym, ap, refl, drop, fold, List, [], ◌∷◌, ℕ, Some, None, Option}
+use Rattle.std.proofs.Common.{◌≡◌, ◌∙◌, sym, ap, refl, drop, fold, List, [], ◌∷◌, ℕ, Some, None}
 use Rattle.std.specs.Prelude.{bit_or}
 use Rattle.std.specs.Str.Iter.{split_ascii_whitespace_text}
 use Rattle.sources.specs.White.{nth}
