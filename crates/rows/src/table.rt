@@ -6,17 +6,17 @@ ghost use Rattle.rows.specs.Cells.{cells, used, last, pushed};
 use sources::fault::Fault;
 use sources::reason::Reason;
 
-// Cells of the caller's, of which the first `count` are in use. One table serves rows and entries.
-// It is made for each step, of a slice and a count that stand apart: a struct that held two tables could not say that they are still the caller's cells.
+// Cells of the caller's, of which the first `count` are in use: one table for rows and for entries.
+// It is made for each step, of a slice and a count that stand apart: of tables inside another struct it would not stay known that their cells are still the caller's.
 #[derive(Drop)]
-pub struct Table<'a, T> {
-    pub cells: &'a mut [T],
-    pub count: usize,
+struct Table<'a, T> {
+    cells: &'a mut [T],
+    count: usize,
 }
 
 impl<'a, T: Copy> Table<'a, T> {
     // Takes one more cell in use, where there is one.
-    pub fn push(&mut self, item: T) -> Result<(), Fault>
+    fn push(&mut self, item: T) -> Result<(), Fault>
         ensures pushes { result_map_both (λ _. cells self.new.cells.now self.new.count) (λ f. f) result ≡ pushed item (cells self.old.cells.now self.old.count) }
         ensures frame { self.new.cells.ghost_name ≡ self.old.cells.ghost_name }
     {
@@ -29,20 +29,13 @@ impl<'a, T: Copy> Table<'a, T> {
     }
 }
 
-// The same on cells that stand in another struct: answers the new count.
-pub fn push_at<T: Copy>(held: &mut [T], count: usize, item: T) -> Result<usize, Fault>
-    ensures { result_map_both (cells held.new) (λ f. f) result ≡ pushed item (cells held.old count) }
+// The same on a slice and a count that stand apart: answers the new count.
+fn push_at<T: Copy>(cells: &mut [T], count: usize, item: T) -> Result<usize, Fault>
+    ensures { result_map_both (Rattle.rows.specs.Cells.cells cells.new) (λ f. f) result ≡ pushed item (Rattle.rows.specs.Cells.cells cells.old count) }
 {
-    let mut table = Table { cells: held, count };
+    let mut table = Table { cells, count };
     table.push(item)?;
     Ok(table.count)
-}
-
-// Those in use.
-pub fn used<T>(held: &[T], count: usize) -> &[T]
-    ensures { result.now ≡ used (cells held.now count) }
-{
-    held.get(..count).unwrap_or(held)
 }
 
 // The last of those in use.
@@ -50,15 +43,6 @@ pub fn last<T: Copy>(used: &[T]) -> Option<T>
     ensures { result ≡ last used.now }
 {
     used.last().copied()
-}
-
-// Writes a cell, where it is there.
-pub fn set_at<T: Copy>(held: &mut [T], i: usize, item: T)
-    ensures { held.new ≡ slice_set held.old i item }
-{
-    if i < held.len() {
-        held[i] = item;
-    }
 }
 
 // Cells that a caller lends, as a bound: no impl for a type that names a lifetime can have a constant of a trait, as a kind has.
@@ -90,7 +74,7 @@ impl<'a, T: Copy> Lent<T> for &'a mut [T] {
     ghost same = { λ s t. (t.ghost_name ≡ s.ghost_name) × (length t.now ≡ length s.now) };
 
     fn in_use(&self, count: usize) -> &[T] {
-        used(self, count)
+        self.get(..count).unwrap_or(self)
     }
 
     fn push_at(&mut self, count: usize, item: T) -> Result<usize, Fault> {
@@ -98,7 +82,9 @@ impl<'a, T: Copy> Lent<T> for &'a mut [T] {
     }
 
     fn set_at(&mut self, i: usize, item: T) {
-        set_at(self, i, item);
+        if i < self.len() {
+            self[i] = item;
+        }
     }
 
     ghost itself = { λ _. (refl, refl) };
