@@ -1,2 +1,5 @@
 mod Blanks
 mod Settled
+mod Fulls
+mod Walked
+mod Blocked

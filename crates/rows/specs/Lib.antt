@@ -5,3 +5,4 @@ pub mod Flags
 pub mod Entries
 pub mod Sorts
 pub mod Tables
+pub mod Blocks
