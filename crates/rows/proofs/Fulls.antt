@@ -1,9 +1,8 @@
 -- Tables whose first cells are given.
-use Rattle.std.proofs.Common.{◌≡◌, ℕ, zero, suc, ◌+◌, ◌-◌, ◌<◌, ◌≤◌, Bool, true, false, cond, List, [], ◌∷◌, ◌++◌, length, take, drop, Ok, Err, Some, Option, Result, slice_set, refl, sym, ap, ◌∙◌, arith, add-one, append_assoc, length-append, length-drop, ltb}
+use Rattle.std.proofs.Common.{◌≡◌, ℕ, zero, suc, ◌+◌, ◌-◌, ◌<◌, Bool, true, false, cond, List, [], ◌∷◌, ◌++◌, length, take, drop, Ok, Err, Some, slice_set, refl, sym, ap, ◌∙◌, arith, add-one, append_assoc, length-append, length-drop, ltb}
 use Rattle.std.proofs.Math.ListN.{length-set}
 use Rattle.std.specs.List.{slice_get}
-use Rattle.std.proofs.lemmas.Bool.{cases_Bool, ltb-true}
-use Rattle.sources.specs.declared.fault.Fault.{Fault}
+use Rattle.std.proofs.lemmas.Bool.{ltb-true}
 use Rattle.sources.specs.declared.reason.Reason.TheVariants.{Full}
 use Rattle.sources.specs.Faults.{fault}
 use Rattle.rows.specs.Cells.{Cells, cells, used, last, pushed, written}

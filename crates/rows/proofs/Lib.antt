@@ -3,3 +3,4 @@ mod Settled
 mod Fulls
 mod Walked
 mod Blocked
+mod Told

@@ -1,9 +1,7 @@
 -- An accepted text: each line was taken, and the meaning is that after all lines.
-use Rattle.std.proofs.Common.{◌≡◌, ℕ, ◌+◌, ◌≤◌, Bool, true, false, List, [], ◌∷◌, length, Ok, Err, Result, refl, sym, ap, ◌∙◌, arith, length-append}
-use Rattle.sources.specs.declared.fault.Refusal.{Refusal}
-use Rattle.sources.specs.declared.kind.Break.{Break}
+use Rattle.std.proofs.Common.{◌≡◌, ℕ, ◌+◌, ◌≤◌, Bool, true, false, List, [], ◌∷◌, length, Ok, Err, Result, refl, ap, ◌∙◌, arith, length-append}
 use Rattle.sources.specs.declared.kind.Break.TheVariants.{Refuses}
-use Rattle.sources.specs.Lines.{text_of, walk, judged, broke, Outcome, ending}
+use Rattle.sources.specs.Lines.{text_of, walk, Outcome, ending}
 use Rattle.sources.specs.Rules.{Rules}
 use Rattle.sources.specs.declared.fault.Fault.{Fault}
 use Rattle.sources.specs.Faults.{at_line}

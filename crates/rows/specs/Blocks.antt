@@ -1,5 +1,5 @@
 -- What the rows and entries of an accepted text are, told by its mappings: of each, the line that opens it and the lines that follow.
-use Rattle.std.specs.Prelude.{◌≡◌, ℕ, ◌+◌, Bool, false, cond, List, [], ◌∷◌, ◌++◌, length, drop, fold, slice_set, Ok, Err, Result}
+use Rattle.std.specs.Prelude.{◌≡◌, ℕ, ◌+◌, false, cond, List, [], ◌∷◌, ◌++◌, length, drop, fold, slice_set, Ok, Err, Result}
 use Rattle.sources.specs.declared.fault.Fault.{Fault}
 use Rattle.sources.specs.declared.fault.Refusal.{Refusal}
 use Rattle.sources.specs.Lines.{lines_of}
