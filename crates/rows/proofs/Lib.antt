@@ -4,3 +4,4 @@ mod Fulls
 mod Walked
 mod Blocked
 mod Told
+mod Spelled

@@ -6,3 +6,4 @@ pub mod Entries
 pub mod Sorts
 pub mod Tables
 pub mod Blocks
+pub mod Placed
