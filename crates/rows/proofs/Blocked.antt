@@ -106,7 +106,7 @@ module _ (rows : List Row) (entries : List Entry) where
     value_is None q e = more (pushed v (full (front ++ cur) entries)) refl e
     value_is (Some i) q e =
         let h = found_some i _ _ refl q in
-        same_key i (rw h.0 h.1) (let y = e in cc)
+        same_key i (rw h.0 h.1) (let y : found (Some (length front + i)) ≡ Ok t = e in cc)
 
   -- what an attribute says of the last row
   told_is : (done : List Row) (r : Row) (flags : ℕ) (front cur : List Entry) (b : ℕ) (s : Saying) (t : Tables) →

@@ -28,11 +28,6 @@ blanked n e (Err f) (Err g) left left' m rs es q b r s =
     let l = ap (λ (p : Read). p.1) q in
     rw (r, s, p, l)
 
--- no answer is both
-pub refused_well : (x : Result Counts Refusal) (n : Counts) → is_err x ≡ true → x ≡ Ok n → ⊥
-refused_well (Ok c) n b e = let z : false ≡ true = b in cc
-refused_well (Err f) n b e = let z = e in cc
-
 -- an acceptance, over the cells as lines left them
 pub kept : (n e : ℕ) (o : Result ℕ Refusal × Filled × Text) (x : Result Counts Refusal) (left : Text) (rs : List Row) (es : List Entry) (state : Result Marks Fault) →
     ◌≡◌ {A = Read} (x, left) (closes row_rules o) → is_err x ≡ false → filled rs es state ≡ o.1 → ◌≡◌ {A = Left} (x, rs, es, left) (settled n e (closes row_rules o) o.1)

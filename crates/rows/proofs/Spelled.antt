@@ -1,5 +1,5 @@
 -- Where a mapping line has its name.
-use Rattle.std.proofs.Common.{◌≡◌, ℕ, suc, ◌+◌, ◌-◌, ◌<◌, ◌≤◌, Bool, true, false, cond, eqb, eqb-true, ◌⊎◌, inl, inr, List, [], ◌∷◌, ◌++◌, reverse, length, take, drop, get_or, codes, Ok, Err, Some, None, IsUtf8, Option, Result, ℤ, refl, sym, ap, ◌∙◌, subst, arith, add-one, append_assoc, append-nil, length-append}
+use Rattle.std.proofs.Common.{◌≡◌, ℕ, suc, ◌+◌, ◌<◌, Bool, true, false, cond, eqb, eqb-true, ◌⊎◌, inl, inr, List, [], ◌∷◌, ◌++◌, reverse, length, drop, get_or, codes, Ok, Err, Some, None, IsUtf8, Option, Result, ℤ, refl, sym, ap, ◌∙◌, subst, arith, add-one, append_assoc, append-nil, length-append}
 use mathlib.Core.List.{reverse-append, reverse-reverse}
 use lib.Utf8.{encodes}
 use Rattle.std.specs.Char.{is_whitespace}
@@ -11,7 +11,7 @@ use Rattle.sources.specs.declared.reason.Reason.TheVariants.{Short}
 use Rattle.sources.specs.declared.number.Radix.TheVariants.{Decimal, Hexadecimal}
 use Rattle.sources.specs.Number.{unsigned, signed, two_of}
 use Rattle.sources.specs.Faults.{and_then, as_fault, fault}
-use Rattle.sources.specs.Pieces.{case_of, cut, cut_at, up_to, past, shorn}
+use Rattle.sources.specs.Pieces.{case_of, cut, past, shorn}
 use Rattle.sources.specs.White.{trim, trim_start, trim_front, trim_back, keep}
 use Rattle.kinds.specs.Path.{Named, path, tstack, vsys, other, path_of, named_of, thread_of, bracketed, key_of, file_of, heap, stack, vdso, vvar, vsyscall, rollup, anonymous}
 use Rattle.kinds.specs.Mapping.{Mapping, mapping_of, piece}
