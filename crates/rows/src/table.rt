@@ -45,7 +45,7 @@ pub fn last<T: Copy>(used: &[T]) -> Option<T>
     used.last().copied()
 }
 
-// Cells that a caller lends, as a bound: no impl for a type that names a lifetime can have a constant of a trait, as a kind has.
+// Cells that a caller lends, as a bound. A kind has a constant, which can't be stated in an impl for a type that names a lifetime; so the slices come into it as type arguments.
 pub trait Lent<T> {
     ghost held: { Self → List T };
 
