@@ -1,0 +1,118 @@
+-- The two tables, and what lines make of them.
+use Rattle.std.specs.Prelude.{ℕ, ◌-◌, Bool, true, false, List, length, replicate, Ok, Err, Result, refl}
+use Rattle.std.specs.Option.{ok_or}
+use Rattle.std.specs.Result.{result_err, result_map_both}
+use Rattle.sources.specs.declared.fault.Fault.{Fault}
+use Rattle.sources.specs.declared.kind.Break.TheVariants.{Refuses}
+use Rattle.sources.specs.declared.reason.Reason.TheVariants.{Orphan}
+use Rattle.sources.specs.Faults.{fault, and_then}
+use Rattle.sources.specs.Pieces.{case_of}
+use Rattle.sources.specs.declared.fault.Refusal.{Refusal}
+use Rattle.sources.specs.Lines.{course, reading}
+use Rattle.sources.specs.Rules.{Rules, RefusalStays, ForeignIsAside, BeginsWithALine}
+use Rattle.sources.specs.Texts.{Text}
+use Rattle.rows.specs.declared.entry.Entry.{Entry}
+use Rattle.rows.specs.declared.read.Counts.{Counts}
+use Rattle.rows.specs.declared.read.Marks.{Marks}
+use Rattle.rows.specs.declared.row.Row.{Row}
+use Rattle.rows.specs.declared.sort.Saying.{Saying}
+use Rattle.rows.specs.declared.sort.Saying.TheVariants.{Nothing, Flags, Value}
+use Rattle.rows.specs.declared.sort.Sort.{Sort}
+use Rattle.rows.specs.declared.sort.Sort.TheVariants.{Mapping, Attribute}
+use Rattle.rows.specs.Cells.{Cells, cells, used, last, pushed, written}
+use Rattle.rows.specs.Entries.{spot, blank_entry}
+use Rattle.rows.specs.Paths.{further}
+use Rattle.rows.specs.Rows.{blank_row}
+use Rattle.rows.specs.Sorts.{sort_of}
+
+-- The tables, and how many bytes of text were taken.
+pub record Tables : Type 0 where
+  pub rows : Cells Row
+  pub entries : Cells Entry
+  pub bytes : ℕ
+
+abbrev pub tables : List Row → List Entry → Marks → Tables
+tables rows entries m = record { rows = cells rows m.rows; entries = cells entries m.entries; bytes = m.bytes }
+
+-- Behind a line of n bytes.
+abbrev pub passed : ℕ → Marks → Marks
+passed n m = record { rows = m.rows; entries = m.entries; bytes = further m.bytes n }
+
+-- A mapping line opens a row, whose entries are to stand behind those so far.
+abbrev pub opened : Row → Tables → Result Tables Fault
+opened row t = and_then (pushed (record row { first = t.entries.count }) t.rows) (λ rows. Ok (record t { rows = rows }))
+
+-- The last row is written anew.
+abbrev pub renewed : Row → Tables → Tables
+renewed row t = record t { rows = written (t.rows.count - 1) row t.rows }
+
+-- A new entry, behind all others, is one more of the last row.
+abbrev pub entered : Entry → Row → Tables → Result Tables Fault
+entered e row t = and_then (pushed e t.entries) (λ es. Ok (renewed (record row { count = es.count - row.first }) (record t { entries = es })))
+
+-- A key that is among the last row's entries takes the new value in its entry; any other is a new entry.
+abbrev pub valued : Entry → Row → Tables → Result Tables Fault
+valued e row t = case_of (spot e.key row.first (used t.entries)) (entered e row t) (λ i. Ok (record t { entries = written i e t.entries }))
+
+-- What an attribute line makes of the tables, whose last row is `row`.
+abbrev pub told : Saying → Row → Tables → Result Tables Fault
+told Nothing row t = Ok t
+told (Flags bits) row t = Ok (renewed (record row { flags = bits }) t)
+told (Value e) row t = valued e row t
+
+-- What a line of a sort makes of them: an attribute's line is of the last row.
+abbrev pub after_sort : Sort → Tables → Result Tables Fault
+after_sort (Mapping r) t = and_then r (λ row. opened row t)
+after_sort (Attribute a) t = and_then (ok_or (last (used t.rows)) (fault Orphan)) (λ row. and_then a (λ s. told s row t))
+
+-- The tables after some lines, or the fault of a line that was refused.
+abbrev pub Filled : Type 0
+Filled = Result Tables Fault
+
+abbrev pub filled : List Row → List Entry → Result Marks Fault → Filled
+filled rows entries state = result_map_both (tables rows entries) (λ f. f) state
+
+-- Before any line.
+abbrev pub unmarked : Marks
+unmarked = record { rows = 0; entries = 0; bytes = 0 }
+
+abbrev pub fresh : List Row → List Entry → Filled
+fresh rows entries = Ok (tables rows entries unmarked)
+
+abbrev pub after_line : List ℕ → Tables → Filled
+after_line line t = after_sort (sort_of t.bytes line) (record t { bytes = further t.bytes (length line) })
+
+-- How many rows and entries are in use.
+abbrev pub counts : Tables → Counts
+counts t = record { rows = t.rows.count; entries = t.entries.count }
+
+-- The rules of the kind. After a fault no line changes anything.
+abbrev pub row_rules : Rules Filled Counts
+row_rules = record { next = λ m line. and_then m (after_line line); refused = result_err; closed = λ m. and_then m (λ t. Ok (counts t)); on_break = Refuses }
+
+-- No line is foreign, and lines may always stand.
+abbrev pub has_begun : Filled → Bool
+has_begun m = true
+
+abbrev pub is_foreign : List ℕ → Bool
+is_foreign line = false
+
+pub refusal_stays : RefusalStays row_rules
+refusal_stays (Ok t) f e = cc
+refusal_stays (Err g) f e = (λ line. e, cc)
+
+pub foreign_aside : ForeignIsAside row_rules has_begun is_foreign
+foreign_aside m line b r f = cc
+
+pub begins_with_any : BeginsWithALine row_rules has_begun
+begins_with_any m line r = refl
+
+-- What is answered, and what the caller's cells hold: a refusal blanks them all.
+abbrev pub settled : ℕ → ℕ → Result Counts Refusal × Text → Filled → Result Counts Refusal × List Row × List Entry × Text
+settled rows entries (Ok n, left) (Ok t) = (Ok n, t.rows.held, t.entries.held, left)
+settled rows entries (Ok n, left) (Err f) = (Ok n, replicate rows blank_row, replicate entries blank_entry, left)
+settled rows entries (Err f, left) m = (Err f, replicate rows blank_row, replicate entries blank_entry, left)
+
+-- The reading of a text into cells: the answer, the cells and the text left.
+unfoldable pub rows_of : List Row → List Entry → Text → Result Counts Refusal × List Row × List Entry × Text
+rows_of rows entries t = settled (length rows) (length entries) (reading row_rules (fresh rows entries) t) (course row_rules (fresh rows entries) t).1
