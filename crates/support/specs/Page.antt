@@ -1,4 +1,4 @@
--- A word of a process's page table, as pagemap.rst lays out its 64 bits.
+-- A word of a process's page table, by its 64 bits as pagemap.rst gives them.
 use Rattle.std.specs.Prelude.{ℕ, ◌+◌, ◌*◌, ◌/◌, ◌%◌, ◌^◌, Bool, cond, ◌==◌}
 use Rattle.support.specs.declared.page.PageInfo.{PageInfo}
 use Rattle.support.specs.declared.page.PageInfo.TheVariants.{MemoryPage, SwapPage}
@@ -14,43 +14,42 @@ bits_from low many word = word / 2 ^ low % 2 ^ many
 abbrev pub is_set : ℕ → ℕ → Bool
 is_set n word = bit n word == 1
 
--- Bits 0-54: page frame number (PFN) if present
+-- Of a page in memory, bits 0 to 54 are the number of its frame.
 abbrev pub page_frame_number : ℕ → ℕ
 page_frame_number = bits_from 0 55
 
--- Bits 0-4: swap type if swapped
+-- Of a swapped page, bits 0 to 4 tell the swap area, and bits 5 to 54 where it is there.
 abbrev pub swap_type : ℕ → ℕ
 swap_type = bits_from 0 5
 
--- Bits 5-54: swap offset if swapped
 abbrev pub swap_offset : ℕ → ℕ
 swap_offset = bits_from 5 50
 
--- Bit 55: pte is soft-dirty
+-- Bit 55: it was written since the bit was cleared.
 abbrev pub soft_dirty : ℕ → Bool
 soft_dirty = is_set 55
 
--- Bit 56: page exclusively mapped
+-- Bit 56: no other process maps it.
 abbrev pub exclusively_mapped : ℕ → Bool
 exclusively_mapped = is_set 56
 
--- Bit 57: pte is uffd-wp write-protected
+-- Bit 57: userfaultfd protects it from being written.
 abbrev pub write_protected : ℕ → Bool
 write_protected = is_set 57
 
--- Bits 58-60: zero
+-- Bits 58 to 60 say nothing: the kernel writes 0.
 abbrev pub spare : ℕ → ℕ
 spare = bits_from 58 3
 
--- Bit 61: page is file-page or shared-anon
+-- Bit 61: it is of a file, or of shared anonymous memory.
 abbrev pub file_or_shared_anon : ℕ → Bool
 file_or_shared_anon = is_set 61
 
--- Bit 62: page swapped
+-- Bit 62: it is swapped out.
 abbrev pub swapped : ℕ → Bool
 swapped = is_set 62
 
--- Bit 63: page present
+-- Bit 63: it is in memory.
 abbrev pub present : ℕ → Bool
 present = is_set 63
 
