@@ -1,4 +1,4 @@
-//! Writes texts of a reading (status, limits, target, syscall or page) with the answers that our library has to give. One case a line: the
+//! Writes texts of a reading (rows, status, limits, target, syscall or page) with the answers that our library has to give. One case a line: the
 //! text, in which `\\` is a backslash and `\x` with two base-16 digits a byte, a tab, then "ok" with the
 //! fields, or "refused" with number, line and field.
 //!
@@ -11,9 +11,15 @@
 mod damage;
 mod dice;
 mod escape;
+// These two have more than is used here.
+#[allow(dead_code)]
+mod inputs;
 mod limits;
 mod machine;
 mod record;
+#[allow(dead_code)]
+mod reference;
+mod rows;
 mod status;
 mod support;
 
@@ -35,6 +41,7 @@ fn main() -> ExitCode {
             .map_or(Some(default), |word| word.parse().ok())
     };
     let reading = match words.get(1) {
+        Some(&"rows") => Some(rows::reading()),
         Some(&"status") => Some(status::reading()),
         Some(&"limits") => Some(limits::reading()),
         Some(&"target") => Some(support::target()),
@@ -70,8 +77,8 @@ fn main() -> ExitCode {
 }
 
 fn usage() -> ExitCode {
-    eprintln!("usage: list status|limits|target|syscall|page FILE [COUNT [SEED]]");
-    eprintln!("       sample status|limits|target|syscall|page FILE [N]");
+    eprintln!("usage: list rows|status|limits|target|syscall|page FILE [COUNT [SEED]]");
+    eprintln!("       sample rows|status|limits|target|syscall|page FILE [N]");
     ExitCode::from(2)
 }
 
