@@ -99,7 +99,11 @@ fn list(reading: &Reading, file: &str, count: usize, seed: usize) -> std::io::Re
         file: BufWriter::new(File::create(file)?),
         counts: Counts::default(),
     };
-    let real = machine::texts(reading.name);
+    let real: Vec<Vec<u8>> = reading
+        .names
+        .iter()
+        .flat_map(|name| machine::texts(name))
+        .collect();
     for text in &real {
         all.write(Sort::Real, text)?;
     }

@@ -1,4 +1,4 @@
-//! Texts of /proc/PID/smaps, read as rows: every field of every mapping, its flags and its attributes.
+//! Texts of /proc/PID/smaps, maps and smaps_rollup, read as rows: every field of every mapping, its flags and its attributes.
 
 mod differences;
 mod inputs;
@@ -8,7 +8,7 @@ use crate::record::Reading;
 
 pub fn reading() -> Reading {
     Reading {
-        name: "smaps",
+        names: &["smaps", "maps", "smaps_rollup"],
         fields: 0,
         listed: inputs::listed,
         generated: inputs::generated,
