@@ -1,6 +1,6 @@
-//! Writes texts of a reading (rows, status, limits, target, syscall or page) with the answers that our library has to give. One case a line: the
-//! text, in which `\\` is a backslash and `\x` with two base-16 digits a byte, a tab, then "ok" with the
-//! fields, or "refused" with number, line and field.
+//! Writes texts of a reading (rows, status, limits, target, syscall or page) with the answers that our
+//! library has to give. One case a line: the text, in which `\\` is a backslash and `\x` with two base-16
+//! digits a byte, a tab, then "ok" with the fields, or "refused" with number, line and field.
 //!
 //! - `list READING FILE [COUNT [SEED]]`: every readable text of the machine, a list of cases, and COUNT
 //!   generated and damaged texts, with all that is due to them.

@@ -11,7 +11,8 @@
 //!
 //! All other rules are procfs-core's own: it reads the text with such paths of /SYSV replaced, up to the
 //! line that one of these refusals stops at. Its attributes have no order; due is the order in which
-//! their keys first come, where procfs-core tells the key of each line from that line behind its mapping's.
+//! their keys first come, where procfs-core tells the key of each line from that line behind its mapping's. It has no places;
+//! due is where the path begins in its line.
 
 use crate::record::{Answer, Due, Refusal};
 use crate::reference::{maps, number_of, past_u64};
@@ -49,7 +50,10 @@ pub fn due(text: &[u8]) -> Result<Due, String> {
             let (number, line, why) = reading.stop.expect("looked at");
             (refused(number, line), Some(why))
         }
-        Ok(maps) => (Answer::Accepted(reading.fields(&maps)?), None),
+        Ok(maps) => (
+            Answer::Accepted(reading.fields(&places(text), &maps)?),
+            None,
+        ),
     };
     let answer = match &reference {
         Ok(maps) => Some(Answer::Accepted(plain(text, maps)?)),
@@ -91,23 +95,41 @@ fn is_attribute(line: &[u8]) -> bool {
 }
 
 /// The number of mappings, and each of them with the path that `path` makes of its number and its own.
+/// The paths begin at `places`.
 fn fields(
     text: &[u8],
+    places: &[usize],
     maps: &MemoryMaps,
     path: impl Fn(usize, Path) -> Result<Path, String>,
 ) -> Result<String, String> {
     let keys = keys(text, maps)?;
     let mut out = maps.0.len().to_string();
     for (index, map) in maps.0.iter().enumerate() {
+        let path = path(index, Path::of(&map.pathname))?;
         out.push(' ');
-        out += &shown(map, &path(index, Path::of(&map.pathname))?, &keys[index]);
+        out += &shown(map, &path, places[index], &keys[index]);
     }
     Ok(out)
 }
 
 /// The same as procfs-core has them.
 fn plain(text: &[u8], maps: &MemoryMaps) -> Result<String, String> {
-    fields(text, maps, |_, path| Ok(path))
+    fields(text, &places(text), maps, |_, path| Ok(path))
+}
+
+/// Where the path of each mapping line begins in the text.
+fn places(text: &[u8]) -> Vec<usize> {
+    let mut places = Vec::new();
+    let mut end = 0;
+    for line in lines(text) {
+        end += line.len();
+        if !is_attribute(line) {
+            let line = std::str::from_utf8(line).unwrap_or("");
+            let path = line.splitn(6, ' ').nth(5).unwrap_or("");
+            places.push(end - path.trim_start().len());
+        }
+    }
+    places
 }
 
 /// The keys of each mapping, in the order in which they first come.
@@ -224,8 +246,8 @@ impl Reading {
         torn
     }
 
-    fn fields(&self, maps: &MemoryMaps) -> Result<String, String> {
-        fields(&self.text, maps, |index, path| {
+    fn fields(&self, places: &[usize], maps: &MemoryMaps) -> Result<String, String> {
+        fields(&self.text, places, maps, |index, path| {
             let piece = &self.pieces[index];
             if path.kind != 0 {
                 return Ok(path);

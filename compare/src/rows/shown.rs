@@ -1,5 +1,5 @@
 //! A mapping as procfs-core has it, and as lists have it: address, permissions, offset, device, inode,
-//! the case of the path with its number and its name, flags and attributes.
+//! the case of the path with its number, where its name stands, and its name; flags and attributes.
 
 use procfs_core::process::{MMapPath, MemoryMap};
 use std::os::unix::ffi::OsStrExt;
@@ -46,14 +46,19 @@ impl Path {
     }
 }
 
-/// The mapping with this path, and its attributes in the order of these keys.
-pub fn shown(map: &MemoryMap, path: &Path, keys: &[String]) -> String {
+/// The mapping with this path, which begins at `at`, and its attributes in the order of these keys.
+pub fn shown(map: &MemoryMap, path: &Path, at: usize, keys: &[String]) -> String {
+    let place = match path.kind {
+        0 => at,
+        10 => at + 1,
+        _ => 0,
+    };
     let attributes: Vec<String> = keys
         .iter()
         .map(|key| format!("{}={}", quoted(key.as_bytes()), map.extension.map[key]))
         .collect();
     format!(
-        "{}-{} {} {} {}:{} {} {} {} {} {} [{}]",
+        "{}-{} {} {} {}:{} {} {} {} {place} {} {} [{}]",
         map.address.0,
         map.address.1,
         map.perms.bits(),

@@ -1,4 +1,4 @@
-// The answer to an smaps text that is read as rows: `ok`, how many mappings there are, and each with its fields, the case of its path as number, number and name, its flags, and its attributes in order; or `refused`.
+// The answer to an smaps text that is read as rows: `ok`, how many mappings there are, and each with its fields, the case of its path as number, its number, where its name stands, and its name, its flags, and its attributes in order; or `refused`.
 use crate::quoted::Quoted;
 use crate::{Answer, record_answer};
 use rows::entry::Entry;
@@ -47,7 +47,7 @@ impl Rows<'_> {
         write!(f, " {}:{} {}", row.dev.0, row.dev.1, row.inode)?;
         write!(f, " {} {}", row.path.kind, row.path.number)?;
         let Place { offset, length } = row.path.place;
-        write!(f, " {}", Quoted(part(self.text, offset, length)))?;
+        write!(f, " {offset} {}", Quoted(part(self.text, offset, length)))?;
         let attributes = part(self.entries, row.first, row.count);
         write!(f, " {} {}", row.flags, Attributes(attributes))
     }
