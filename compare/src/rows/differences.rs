@@ -11,8 +11,8 @@
 //!
 //! All other rules are procfs-core's own: it reads the text with such paths of /SYSV replaced, up to the
 //! line that one of these refusals stops at. Its attributes have no order; due is the order in which
-//! their keys first come, where procfs-core tells the key of each line from that line behind its mapping's. It has no places;
-//! due is where the path begins in its line.
+//! their keys first come, where procfs-core tells the key of each line from that line behind its
+//! mapping's. It has no places; due is where the path begins in its line.
 
 use crate::record::{Answer, Due, Refusal};
 use crate::reference::{maps, number_of, past_u64};
