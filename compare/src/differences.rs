@@ -12,7 +12,7 @@
 //! that one of these refusals stops at.
 
 use crate::answer::Answer;
-use crate::reference::{self, Class, Mapping};
+use crate::reference::{self, number_of, past_u64, Mapping};
 use std::fmt;
 
 const LINE: usize = 4096;
@@ -142,18 +142,6 @@ fn agree(text: &[u8], reference: &reference::Answer, ours: &Answer) -> bool {
             number_of(*class, last) == Some(*number) && *line as u64 == *ours
         }
         _ => false,
-    }
-}
-
-/// Our number for procfs-core's refusal of a line.
-fn number_of(class: Class, line: &[u8]) -> Option<u32> {
-    match class {
-        Class::Incomplete if std::str::from_utf8(line).is_err() => Some(1),
-        Class::Incomplete => Some(4),
-        Class::Short => Some(5),
-        Class::Figure => Some(6),
-        Class::Other => Some(7),
-        Class::Key | Class::Panic | Class::Unknown => None,
     }
 }
 
@@ -289,17 +277,5 @@ impl Reading {
             reference::Answer::Accepted(mappings) => Some(mappings),
             reference::Answer::Refused { .. } => None,
         }
-    }
-}
-
-/// Whether a third word takes the attribute's value past u64.
-fn past_u64(line: &str) -> bool {
-    if line.starts_with("VmFlags") {
-        return false;
-    }
-    let mut words = line.split_ascii_whitespace().skip(1);
-    match (words.next().map(str::parse::<u64>), words.next()) {
-        (Some(Ok(value)), Some(_)) => value.checked_mul(1024).is_none(),
-        _ => false,
     }
 }

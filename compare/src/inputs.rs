@@ -82,7 +82,7 @@ const DEVICES_BAD: [&str; 13] = [
 const INODES: [&str; 3] = ["0", "247134", "8312"];
 const INODES_GOOD: [&str; 3] = ["18446744073709551615", "+5", "0000000000000000000000007"];
 const INODES_BAD: [&str; 7] = ["", "18446744073709551616", "-0", "a", "0x1", "+", "1.0"];
-const PATHS: [&str; 12] = [
+pub const PATHS: [&str; 12] = [
     "/usr/lib/x86_64-linux-gnu/libc.so.6",
     "/usr/bin/cat",
     "[heap]",
@@ -96,7 +96,7 @@ const PATHS: [&str; 12] = [
     "[anon:glibc: malloc]",
     "/SYSV00000000 (deleted)",
 ];
-const PATHS_GOOD: [&str; 57] = [
+pub const PATHS_GOOD: [&str; 57] = [
     "[rollup]",
     "[stack:12]",
     "[stack:12:3]",
@@ -155,7 +155,7 @@ const PATHS_GOOD: [&str; 57] = [
     "/sysv00000000",
     "/tmp/SYSV0",
 ];
-const PATHS_ODD: [&str; 18] = [
+pub const PATHS_ODD: [&str; 18] = [
     "/SYSV",
     "/SYSV/a",
     "/SYSVfffffff",
@@ -274,7 +274,7 @@ const VALUES_BAD: [&str; 19] = [
     "kB",
     "\u{200b}4",
 ];
-const GAPS: [&str; 12] = [
+pub const GAPS: [&str; 12] = [
     " ",
     "                  ",
     "\t",
@@ -289,7 +289,7 @@ const GAPS: [&str; 12] = [
     "\u{c}\r\t",
 ];
 /// Not ASCII white: these make one word of two.
-const NO_GAPS: [&str; 5] = ["\u{b}", "\u{a0}", "\u{3000}", "\u{85}", "\0"];
+pub const NO_GAPS: [&str; 5] = ["\u{b}", "\u{a0}", "\u{3000}", "\u{85}", "\0"];
 const SUFFIXES: [&str; 16] = [
     " kB",
     " kB",
@@ -336,7 +336,7 @@ const LINES_BAD: [&str; 14] = [
     "VMFLAGS: rd",
     "Rss:  \u{a0}",
 ];
-const ENDS: [&str; 2] = ["\n", "\r\n"];
+pub const ENDS: [&str; 2] = ["\n", "\r\n"];
 
 /// One text for each form of each part.
 pub fn listed() -> Vec<Vec<u8>> {
@@ -470,15 +470,15 @@ pub fn huge(which: usize) -> Option<Vec<u8>> {
 }
 
 /// How a generated text departs from what a kernel writes.
-struct Style {
+pub struct Style {
     /// Percent of parts that take an uncommon form that is accepted.
-    uncommon: usize,
+    pub uncommon: usize,
     /// Percent of parts that take a form under an intended difference.
-    odd: usize,
+    pub odd: usize,
     /// Percent of parts that take a form that is refused.
-    bad: usize,
+    pub bad: usize,
     /// Attributes of a mapping, at most.
-    most: usize,
+    pub most: usize,
 }
 
 /// A generated text.
@@ -558,7 +558,7 @@ fn form<'a>(
     }
 }
 
-fn mapping(dice: &mut Dice, style: &Style) -> String {
+pub fn mapping(dice: &mut Dice, style: &Style) -> String {
     let address = if dice.chance(70) {
         let start = dice.next() >> 17 & !0xfff;
         let end = start + 4096 * (1 + dice.below(300) as u64);
@@ -586,7 +586,7 @@ fn mapping(dice: &mut Dice, style: &Style) -> String {
     }
 }
 
-fn attribute(dice: &mut Dice, style: &Style) -> String {
+pub fn attribute(dice: &mut Dice, style: &Style) -> String {
     let key = if dice.chance(50) {
         dice.pick(&SUMMED)
     } else {

@@ -1,6 +1,6 @@
-//! Writes texts of a reading (status, limits, target, syscall or page) with the answers that our library has to give. One case a line: the
-//! text, in which `\\` is a backslash and `\x` with two base-16 digits a byte, a tab, then "ok" with the
-//! fields, or "refused" with number, line and field.
+//! Writes texts of a reading (rows, status, limits, target, syscall or page) with the answers that our
+//! library has to give. One case a line: the text, in which `\\` is a backslash and `\x` with two base-16
+//! digits a byte, a tab, then "ok" with the fields, or "refused" with number, line and field.
 //!
 //! - `list READING FILE [COUNT [SEED]]`: every readable text of the machine, a list of cases, and COUNT
 //!   generated and damaged texts, with all that is due to them.
@@ -11,9 +11,15 @@
 mod damage;
 mod dice;
 mod escape;
+// These two have more than is used here.
+#[allow(dead_code)]
+mod inputs;
 mod limits;
 mod machine;
 mod record;
+#[allow(dead_code)]
+mod reference;
+mod rows;
 mod status;
 mod support;
 
@@ -35,6 +41,7 @@ fn main() -> ExitCode {
             .map_or(Some(default), |word| word.parse().ok())
     };
     let reading = match words.get(1) {
+        Some(&"rows") => Some(rows::reading()),
         Some(&"status") => Some(status::reading()),
         Some(&"limits") => Some(limits::reading()),
         Some(&"target") => Some(support::target()),
@@ -70,8 +77,8 @@ fn main() -> ExitCode {
 }
 
 fn usage() -> ExitCode {
-    eprintln!("usage: list status|limits|target|syscall|page FILE [COUNT [SEED]]");
-    eprintln!("       sample status|limits|target|syscall|page FILE [N]");
+    eprintln!("usage: list rows|status|limits|target|syscall|page FILE [COUNT [SEED]]");
+    eprintln!("       sample rows|status|limits|target|syscall|page FILE [N]");
     ExitCode::from(2)
 }
 
@@ -92,7 +99,11 @@ fn list(reading: &Reading, file: &str, count: usize, seed: usize) -> std::io::Re
         file: BufWriter::new(File::create(file)?),
         counts: Counts::default(),
     };
-    let real = machine::texts(reading.name);
+    let real: Vec<Vec<u8>> = reading
+        .names
+        .iter()
+        .flat_map(|name| machine::texts(name))
+        .collect();
     for text in &real {
         all.write(Sort::Real, text)?;
     }

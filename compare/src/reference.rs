@@ -65,23 +65,51 @@ pub fn totals(mappings: &[Mapping]) -> [u128; 3] {
 
 /// What procfs-core answers to a text.
 pub fn read(text: &[u8]) -> Answer {
+    match maps(text) {
+        Ok(maps) => Answer::Accepted(
+            maps.iter()
+                .map(|map| KEYS.map(|key| map.extension.map.get(key).copied().unwrap_or(0)))
+                .collect(),
+        ),
+        Err((class, line)) => Answer::Refused { class, line },
+    }
+}
+
+/// The mappings that procfs-core reads in a text, or why it refuses the text and the last line that it
+/// read, from 1.
+pub fn maps(text: &[u8]) -> Result<MemoryMaps, (Class, usize)> {
     let mut rest = text;
     let result = catch_unwind(AssertUnwindSafe(|| MemoryMaps::from_buf_read(&mut rest)));
     let class = match result {
-        Ok(Ok(maps)) => {
-            return Answer::Accepted(
-                maps.iter()
-                    .map(|map| KEYS.map(|key| map.extension.map.get(key).copied().unwrap_or(0)))
-                    .collect(),
-            );
-        }
+        Ok(Ok(maps)) => return Ok(maps),
         Ok(Err(error)) => class(&error),
         Err(_) => Class::Panic,
     };
     let taken = &text[..text.len() - rest.len()];
-    Answer::Refused {
-        class,
-        line: taken.split_inclusive(|byte| *byte == b'\n').count(),
+    Err((class, taken.split_inclusive(|byte| *byte == b'\n').count()))
+}
+
+/// Our number for procfs-core's refusal of a line.
+pub fn number_of(class: Class, line: &[u8]) -> Option<u32> {
+    match class {
+        Class::Incomplete if std::str::from_utf8(line).is_err() => Some(1),
+        Class::Incomplete => Some(4),
+        Class::Short => Some(5),
+        Class::Figure => Some(6),
+        Class::Other => Some(7),
+        Class::Key | Class::Panic | Class::Unknown => None,
+    }
+}
+
+/// Whether a third word takes the attribute's value past u64, where procfs-core wraps round.
+pub fn past_u64(line: &str) -> bool {
+    if line.starts_with("VmFlags") {
+        return false;
+    }
+    let mut words = line.split_ascii_whitespace().skip(1);
+    match (words.next().map(str::parse::<u64>), words.next()) {
+        (Some(Ok(value)), Some(_)) => value.checked_mul(1024).is_none(),
+        _ => false,
     }
 }
 

@@ -10,7 +10,7 @@ use crate::record::Reading;
 pub fn reading() -> Reading {
     reference::check();
     Reading {
-        name: "limits",
+        names: &["limits"],
         fields: names::NAMES.len(),
         listed: inputs::listed,
         generated: inputs::generated,

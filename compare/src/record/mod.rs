@@ -9,8 +9,8 @@ use std::fmt;
 
 /// A reading: its texts, and what they have coming to them.
 pub struct Reading {
-    /// The name of its texts under /proc/PID.
-    pub name: &'static str,
+    /// The names of its texts under /proc/PID.
+    pub names: &'static [&'static str],
     /// The number of fields.
     pub fields: usize,
     /// A list of single cases.

@@ -11,7 +11,7 @@ use crate::record::Reading;
 pub fn reading() -> Reading {
     reference::check();
     Reading {
-        name: "status",
+        names: &["status"],
         fields: names::FIELDS,
         listed: inputs::listed,
         generated: inputs::generated,

@@ -8,7 +8,7 @@ use crate::record::{Answer, Due, Reading, Refusal};
 
 pub fn target() -> Reading {
     reading(
-        "fd",
+        &["fd"],
         target::listed,
         target::generated,
         target::due,
@@ -18,7 +18,7 @@ pub fn target() -> Reading {
 
 pub fn syscall() -> Reading {
     reading(
-        "syscall",
+        &["syscall"],
         syscall::listed,
         syscall::generated,
         syscall::due,
@@ -28,18 +28,18 @@ pub fn syscall() -> Reading {
 
 pub fn page() -> Reading {
     // The file of the machine is too long to be read whole, and no text.
-    reading("no file", page::listed, page::generated, page::due, &[])
+    reading(&[], page::listed, page::generated, page::due, &[])
 }
 
 fn reading(
-    name: &'static str,
+    names: &'static [&'static str],
     listed: fn() -> Vec<Vec<u8>>,
     generated: fn(&mut crate::dice::Dice) -> Vec<u8>,
     due: fn(&[u8]) -> Result<Due, String>,
     differences: &[&'static str],
 ) -> Reading {
     Reading {
-        name,
+        names,
         fields: 0,
         listed,
         generated,

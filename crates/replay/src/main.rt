@@ -1,12 +1,14 @@
 // Replays lists of texts with the answers expected, and prints what differs.
 //
-// The words are names of lists; `measure`, `status`, `limits`, `target`, `syscall` or `page` before them says how the lists that follow are read, and without it they are read as measures.
+// The words are names of lists; `measure`, `rows`, `status`, `limits`, `target`, `syscall` or `page` before them says how the lists that follow are read, and without it they are read as measures.
 // A line of a list is a text, a tab, and what is expected. Of a measure: `ok MAPPINGS RSS PSS SWAPPSS`, `refused NUMBER LINE`, or the class of error that procfs-core answers.
 // Of any other: `ok` and the fields, in order, or `refused NUMBER LINE FIELD`.
 // In a text `\\` is a backslash, and `\x` with two digits of base 16 is a byte.
 #![tactic(auto)]
 
 mod limits_text;
+mod quoted;
+mod rows_text;
 mod status_text;
 mod support_text;
 mod text;
@@ -120,6 +122,7 @@ fn main(rt: HostRuntime) -> anyhow::Result<()> {
     for word in env::args(&rt)?.skip(1) {
         match word.as_str() {
             "measure" => read = measure_answer,
+            "rows" => read = rows_text::answer,
             "status" => read = status_text::answer,
             "limits" => read = limits_text::answer,
             "target" => read = support_text::target_answer,

@@ -1,4 +1,5 @@
 // The answer to a status text: `ok` and the 61 fields in order, or `refused`.
+use crate::quoted::Quoted;
 use crate::{Answer, record_answer};
 use fields::counted::Counted;
 use kinds::status_text::read_status;
@@ -18,24 +19,6 @@ impl<T: Display> Display for OrDash<T> {
             Some(value) => write!(f, "{value}"),
             None => f.write_str("-"),
         }
-    }
-}
-
-// Bytes between quotes: a backslash twice, and what is no printed ASCII character in base 16.
-#[derive(Clone, Copy)]
-struct Quoted<'a>(&'a [u8]);
-
-impl Display for Quoted<'_> {
-    fn fmt<W: fmt::Write>(&self, f: &mut Formatter<W>) -> fmt::Result {
-        f.write_str("\"")?;
-        for &b in self.0 {
-            match b {
-                b'\\' => f.write_str("\\\\")?,
-                b'!' | b'#'..=b'~' => f.write_char(char::from(b))?,
-                _ => write!(f, "\\x{b:02x}")?,
-            }
-        }
-        f.write_str("\"")
     }
 }
 

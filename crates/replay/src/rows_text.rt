@@ -1,0 +1,83 @@
+// The answer to an smaps text that is read as rows: `ok`, how many mappings there are, and each with its fields, the case of its path as number, its number, where its name stands, and its name, its flags, and its attributes in order; or `refused`.
+use crate::quoted::Quoted;
+use crate::{Answer, record_answer};
+use rows::entry::Entry;
+use rows::path::Place;
+use rows::read::{Counts, read_rows};
+use rows::row::Row;
+use sources::held::Held;
+use std::alloc::{AllocError, Global};
+use std::fmt;
+use std::fmt::{Display, Formatter};
+
+// So many items from a number on, or none where there are fewer.
+fn part<T>(items: &[T], first: usize, count: usize) -> &[T] {
+    let behind = items.get(first..).unwrap_or(&[]);
+    behind.get(..count).unwrap_or(&[])
+}
+
+#[derive(Clone, Copy)]
+struct Attributes<'a>(&'a [Entry]);
+
+impl Display for Attributes<'_> {
+    fn fmt<W: fmt::Write>(&self, f: &mut Formatter<W>) -> fmt::Result {
+        f.write_str("[")?;
+        if let Some((first, others)) = self.0.split_first() {
+            write!(f, "{}={}", Quoted(first.key.items()), first.value)?;
+            for entry in others {
+                write!(f, ",{}={}", Quoted(entry.key.items()), entry.value)?;
+            }
+        }
+        f.write_str("]")
+    }
+}
+
+// The rows in use, with the text and the entries that they point into.
+#[derive(Clone, Copy)]
+struct Rows<'a> {
+    text: &'a [u8],
+    rows: &'a [Row],
+    entries: &'a [Entry],
+}
+
+impl Rows<'_> {
+    fn put<W: fmt::Write>(&self, f: &mut Formatter<W>, row: &Row) -> fmt::Result {
+        write!(f, " {}-{}", row.address.0, row.address.1)?;
+        write!(f, " {} {}", row.perms.bits, row.offset)?;
+        write!(f, " {}:{} {}", row.dev.0, row.dev.1, row.inode)?;
+        write!(f, " {} {}", row.path.kind, row.path.number)?;
+        let Place { offset, length } = row.path.place;
+        write!(f, " {offset} {}", Quoted(part(self.text, offset, length)))?;
+        let attributes = part(self.entries, row.first, row.count);
+        write!(f, " {} {}", row.flags, Attributes(attributes))
+    }
+}
+
+impl Display for Rows<'_> {
+    fn fmt<W: fmt::Write>(&self, f: &mut Formatter<W>) -> fmt::Result {
+        write!(f, " {}", self.rows.len())?;
+        for row in self.rows {
+            self.put(f, row)?;
+        }
+        Ok(())
+    }
+}
+
+pub fn answer(heap: Global, text: &[u8]) -> Result<Answer, AllocError> {
+    // A line is at most one row or one entry.
+    let breaks = text.iter().filter(|b| **b == b'\n').count();
+    let lines = breaks.saturating_add(1);
+    let mut rows = vec![in heap; Row::blank(); lines]?;
+    let mut entries = vec![in heap; Entry::blank(); lines]?;
+    let read = read_rows(&mut Held::new(text), &mut rows, &mut entries);
+    let counts = read.unwrap_or(Counts {
+        rows: 0,
+        entries: 0,
+    });
+    let fields = Rows {
+        text,
+        rows: part(rows.as_slice(), 0, counts.rows),
+        entries: part(entries.as_slice(), 0, counts.entries),
+    };
+    record_answer(heap, read.map(|_| ()), fields)
+}
