@@ -31,7 +31,7 @@ fn part<T>(items: &[T], first: usize, count: usize) -> &[T] {
     front(behind, count)
 }
 
-// A figure in kB, as it stands in the text, or in bytes where the text has no unit; `-` where there is none.
+// A figure in kB, or in bytes where it is no whole number of kB; `-` where there is none.
 #[derive(Clone, Copy)]
 struct Figure(Option<u64>);
 
@@ -116,7 +116,7 @@ impl Display for Name<'_> {
             5 => f.write_str("[vvar]"),
             6 => f.write_str("[vsyscall]"),
             7 => f.write_str("[rollup]"),
-            9 => write!(f, "shared memory, key {number}"),
+            9 => write!(f, "/SYSV{:08x}", number.cast_unsigned() & 0xffff_ffff),
             10 => write!(f, "[{}]", Bytes(self.bytes())),
             _ => f.write_str("-"),
         }
@@ -194,7 +194,7 @@ impl Display for Table<'_, '_, '_> {
         }
         write!(
             f,
-            "{:>16} {:<16} {:<4}{total}\n",
+            "{:>16} {:<16} {:<5}{total}\n",
             self.rows.len(),
             "mappings",
             ""
@@ -203,7 +203,7 @@ impl Display for Table<'_, '_, '_> {
 }
 
 fn put_head<W: fmt::Write>(f: &mut Formatter<W>) -> fmt::Result {
-    write!(f, "{:>16} {:<16} {:<4}", "from", "to", "may")?;
+    write!(f, "{:>16} {:<16} {:<5}", "from", "to", "perms")?;
     write!(f, " {:>10} {:>10} {:>10}", "Rss kB", "Pss kB", "SwapPss kB")?;
     write!(f, " {:<29} {}\n", "flags", "name")
 }
@@ -216,7 +216,7 @@ fn put_row<W: fmt::Write>(
 ) -> fmt::Result {
     let (from, to) = row.address;
     let path = row.path;
-    write!(f, "{from:>16x}-{to:<16x} {}{sizes}", Perms(row.perms))?;
+    write!(f, "{from:>16x}-{to:<16x} {} {sizes}", Perms(row.perms))?;
     write!(f, "{} {}\n", Flags(row.flags), Name { path, text })
 }
 

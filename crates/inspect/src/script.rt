@@ -1,6 +1,7 @@
 // Requests from a file, one a line, their words between ASCII white space. A blank line is skipped, and so is one whose first word begins with `#`.
 use crate::answer::answer;
 use crate::request::{Request, parse};
+use crate::shown::Bytes;
 use crate::trouble::{Trouble, print_answer};
 use std::alloc::{AllocError, Global};
 use std::fs;
@@ -43,7 +44,7 @@ fn run_line(
     rt: &(impl Files + Print + Eprint + AllocGlobal),
     line: &Line<'_>,
 ) -> anyhow::Result<bool> {
-    println!(rt; "{}:", line.text)?;
+    println!(rt; "{}:", Bytes(line.text.as_bytes()))?;
     match answer(rt, &line.request) {
         Ok(text) => print!(rt; "{text}")?,
         Err(trouble) => {
