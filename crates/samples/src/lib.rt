@@ -1,0 +1,15 @@
+// The table of samples, as one theorem.
+#![tactic(auto)]
+
+ghost use Rattle.kinds.specs.Samples.{Samples as OfKinds};
+ghost use Rattle.limits.specs.Samples.{Samples as OfLimits};
+ghost use Rattle.support.specs.Samples.{Samples as OfSupport};
+
+// All defined readings agree with their samples.
+pub fn all_samples_agree()
+    ensures { OfKinds × (OfLimits × OfSupport) }
+{
+    kinds::samples::samples_agree();
+    limits::samples::samples_agree();
+    support::samples::samples_agree();
+}
