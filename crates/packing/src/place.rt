@@ -63,14 +63,14 @@ impl News {
 
 impl Place {
     // What the job is charged: its Pss, its SwapPss and its headroom.
-    pub fn charge(&self) -> u64
+    pub(crate) fn charge(&self) -> u64
         requires { charge_of self.now ≤ 2 ^ 56 }
         ensures { result ≡ charge_of self.now }
     {
         self.totals.pss + self.totals.swap_pss + self.headroom
     }
 
-    pub fn view(&self) -> View
+    pub(crate) fn view(&self) -> View
         requires { charge_of self.now ≤ 2 ^ 56 }
         ensures { result ≡ view_of self.now }
     {
@@ -85,7 +85,7 @@ impl Place {
     }
 
     // Takes news in; all else stays.
-    pub fn learn(&mut self, news: News)
+    pub(crate) fn learn(&mut self, news: News)
         ensures { self.new ≡ learnt news self.old }
     {
         match news {
