@@ -4,6 +4,7 @@ ghost use Rattle.kinds.specs.Attribute.{bare as bare_of, entry_of, scaled as sca
 use sources::fault::Fault;
 use sources::number::{FromStrRadix, Radix};
 use sources::reason::Reason;
+use sources::words::next_word;
 
 // What an attribute's line says of its mapping.
 #[derive(Clone, Copy, PartialEq, Eq, Debug)]
@@ -40,11 +41,13 @@ impl<'a> Attribute<'a> {
     pub fn from_line(line: &'a str) -> Result<Option<Attribute<'a>>, Fault>
         ensures { seen_entry result ≡ entry_of line.now }
     {
-        let mut words = line.split_ascii_whitespace();
-        let (Some(key), Some(value)) = (words.next(), words.next()) else {
+        let Some((key, rest)) = next_word(line) else {
             return Ok(None);
         };
-        let amount = scaled(amount(value)?, words.next().is_some())?;
+        let Some((value, rest)) = next_word(rest) else {
+            return Ok(None);
+        };
+        let amount = scaled(amount(value)?, next_word(rest).is_some())?;
         Ok(Some(Attribute {
             key: bare(key),
             amount,

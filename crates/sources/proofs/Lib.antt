@@ -18,3 +18,4 @@ pub mod Worded
 pub mod Trims
 pub mod Spaced
 pub mod Found
+pub mod Cut

@@ -1,7 +1,7 @@
 -- What `through` is at one more byte, and its bounds.
-use Rattle.std.specs.List.{position_or_len}
-use Rattle.std.proofs.lemmas.Bool.Decides.{nat_tests}
-use Rattle.std.proofs.Common.{◌≡◌, ℕ, zero, suc, ◌+◌, ◌<◌, ◌≤◌, min, Bool, true, false, cond, not, eqb, ltb, take, List, [], ◌∷◌, length, sym, refl, ap, arith, lt-ltb}
+use Rattle.std.proofs.Common.{◌≡◌, ℕ, zero, suc, ◌+◌, ◌<◌, ◌≤◌, min, true, false, cond, eqb, take, List, [], ◌∷◌, length, get_or, Some, None, Option, refl, ap, ◌∙◌, arith}
+use Rattle.memchr.specs.Find.{IsFirstByte, is_byte}
+use Rattle.sources.specs.Pieces.{case_of}
 use Rattle.sources.specs.Bytes.{through}
 
 pub through-≤ : (xs : List ℕ) → through xs ≤ length xs
@@ -17,17 +17,6 @@ pub through-some : (xs : List ℕ) → 0 < length xs → 0 < through xs
 through-some [] h = absurd (omega arith)
 through-some (x ∷ xs) h = through-pos x xs
 
--- told by the place of the first byte 10
-pub through-is : (xs : List ℕ) → through xs ≡ cond (ltb (position_or_len (λ b. eqb b 10) xs) (length xs)) (position_or_len (λ b. eqb b 10) xs + 1) (length xs)
-through-is [] = refl
-through-is (x ∷ xs) =
-    let ih = through-is xs in
-    elim (eqb x 10) as (λ t. cond t 1 (suc (through xs)) ≡ cond (ltb (cond (not t) (1 + position_or_len (λ b. eqb b 10) xs) 0) (suc (length xs))) (cond (not t) (1 + position_or_len (λ b. eqb b 10) xs) 0 + 1) (suc (length xs)))
-    [ true ↦ sym (ap (λ (t : Bool). cond t 1 (suc (length xs))) (lt-ltb 0 (suc (length xs)) (omega arith))) | false ↦ further (position_or_len (λ b. eqb b 10) xs) (length xs) (through xs) ih ]
-  where
-    further : (p n t : ℕ) → t ≡ cond (ltb p n) (p + 1) n → suc t ≡ cond (ltb (1 + p) (suc n)) ((1 + p) + 1) (suc n)
-    further p n t e = grind (arith, nat_tests)
-
 -- of as many bytes as there is room for
 pub through-take : (n : ℕ) (xs : List ℕ) → through (take n xs) ≡ min n (through xs)
 through-take zero xs = omega arith
@@ -35,3 +24,21 @@ through-take (suc n) [] = omega arith
 through-take (suc n) (x ∷ xs) =
     let ih = through-take n xs in
     elim (eqb x 10) as (λ t. cond t 1 (suc (through (take n xs))) ≡ min (suc n) (cond t 1 (suc (through xs)))) [ true ↦ omega arith | false ↦ omega arith ]
+
+-- told by a search for byte 10
+pub through-none : (xs : List ℕ) → ((k : ℕ) → k < length xs → eqb (get_or xs k 0) 10 ≡ true → ⊥) → through xs ≡ length xs
+through-none [] h = refl
+through-none (x ∷ xs) h =
+    let ih = through-none xs (λ k l e. h (suc k) (omega arith) e) in
+    elim (eqb x 10) as (λ t. eqb x 10 ≡ t → cond t 1 (suc (through xs)) ≡ suc (length xs)) [ true ↦ λ e. absurd (h 0 (omega arith) e) | false ↦ λ e. ap suc ih ] refl
+
+pub through-at : (xs : List ℕ) (i : ℕ) → i < length xs → eqb (get_or xs i 0) 10 ≡ true → ((k : ℕ) → k < i → eqb (get_or xs k 0) 10 ≡ true → ⊥) → through xs ≡ i + 1
+through-at [] i l e h = absurd (omega arith)
+through-at (x ∷ xs) zero l e h = rw e
+through-at (x ∷ xs) (suc i) l e h =
+    let ih = through-at xs i (omega arith) e (λ k l e. h (suc k) (omega arith) e) in
+    elim (eqb x 10) as (λ t. eqb x 10 ≡ t → cond t 1 (suc (through xs)) ≡ suc i + 1) [ true ↦ λ e. absurd (h 0 (omega arith) e) | false ↦ λ e. ap suc ih ∙ omega arith ] refl
+
+pub through-found : (xs : List ℕ) (r : Option ℕ) → IsFirstByte (is_byte 10) xs r → through xs ≡ case_of r (length xs) (λ i. i + 1)
+through-found xs None h = through-none xs (λ k l e. h k (omega arith) l e)
+through-found xs (Some i) h = through-at xs i h.0.high h.1 (λ k l e. h.0.before k (omega arith) l e)

@@ -12,3 +12,4 @@ pub mod reason;
 mod recording;
 pub mod source;
 pub mod spool;
+pub mod words;
