@@ -24,6 +24,6 @@ filled (Err f) cells = four f.line f.field 0 0 cells
 abbrev pub answer_of : List ℕ → List ℕ → ℕ
 answer_of bytes cells = cond (nat_lt (length cells) 4) 255 (numbered (measured (text bytes false)))
 
--- And stay as they are.
+-- What the cells hold afterwards; fewer than four stay as they are.
 abbrev pub cells_of : List ℕ → List ℕ → List ℕ
 cells_of bytes cells = cond (nat_lt (length cells) 4) cells (filled (measured (text bytes false)) cells)

@@ -1,4 +1,4 @@
--- What an item of a list of ranges means. Lists and masks of processors and memory nodes are after cpuset(7).
+-- What an item of a list of ranges means. Lists and masks of processors and memory nodes are after cpuset(7), which has no second hyphen; here what follows one is ignored.
 use Rattle.std.specs.Prelude.{ℕ, List, Ok, Result}
 use Rattle.sources.specs.declared.fault.NumberFault.{NumberFault}
 use Rattle.sources.specs.declared.number.Radix.TheVariants.{Decimal}

@@ -27,8 +27,8 @@ pub struct TextFile<'a> {
     pub path: &'a str,
 }
 
-// One byte more than a text may have, so that a longer one is refused for its length.
-const MOST: u64 = 268_435_457;
+// As far as a reading can look: the longest text, and one piece more.
+const MOST: u64 = 268_435_456 + 4_096;
 
 // At most so many bytes of a file.
 fn read_some(rt: &(impl Files + AllocGlobal), path: &str, most: u64) -> io::Result<Vec<u8>> {

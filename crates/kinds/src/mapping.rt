@@ -27,7 +27,7 @@ fn piece(text: &str) -> Result<(&str, &str), Fault>
 }
 
 impl<'a> MemoryMap<'a> {
-    // A rule of the project keeps the Rust's name.
+    // The name is procfs-core's.
     pub fn from_line(line: &'a str) -> Result<MemoryMap<'a>, Fault>
         ensures { seen_map result ≡ mapping_of line.now }
     {

@@ -35,7 +35,7 @@ pub struct Tally {
     last: Figures,
 }
 
-// Where an open measure stands. It is no Result, by a rule of the project: a measure matches its state together with the sort of line that arrives.
+// Where an open measure stands: an enum of its own and no Result, since a measure matches it together with the sort of line that arrives.
 #[derive(Clone, Copy)]
 pub enum State {
     NoMapping,

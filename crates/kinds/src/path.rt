@@ -84,7 +84,7 @@ fn read_named<'a>(name: &'a str, text: &'a str) -> Result<MMapPath<'a>, Fault>
 }
 
 impl<'a> MMapPath<'a> {
-    // A rule of the project keeps the Rust's name and form; its From can't refuse, and this can.
+    // Name and form are procfs-core's; a `From` can't refuse, and this can.
     pub fn from(text: &'a str) -> Result<MMapPath<'a>, Fault>
         ensures { seen result ≡ path_of text.now }
     {

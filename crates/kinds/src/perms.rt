@@ -39,7 +39,7 @@ impl MMPermissions {
     pub fn from_letters(text: &str) -> MMPermissions
         ensures { result.bits ≡ perms_of text.now }
     {
-        // A loop, by a rule of the project: over the bytes, or-ing a bit each.
+        // A loop over the bytes, as the union is defined: one bit or-ed in for each.
         let mut bits = 0;
         for b in text.as_bytes() {
             bits |= Self::from_ascii_char(*b);

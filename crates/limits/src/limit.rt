@@ -7,7 +7,7 @@ use sources::number::{FromStrRadix, Radix};
 use std::str::FromStr;
 
 // How far a process may go, or that there is no bound.
-// It could be an `Option<u64>`: a rule of the project names this enum, which the Rust has.
+// An `Option<u64>` would say as much; procfs-core has this enum.
 #[derive(Clone, Copy, PartialEq, Eq, Debug)]
 pub enum LimitValue {
     Unlimited,

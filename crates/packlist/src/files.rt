@@ -13,8 +13,8 @@ use std::io;
 use std::io::Read;
 use std::rt::Files;
 
-// One byte more than a text may have, so that a longer one is refused for its length.
-const MOST: u64 = 268_435_457;
+// As far as a reading can look: the longest text, and one piece more.
+const MOST: u64 = 268_435_456 + 4_096;
 
 // A text is read as far as its length matters, and a recording whole.
 fn read_file(rt: &(impl Files + AllocGlobal), file: TextFile<'_>) -> io::Result<Vec<u8>> {

@@ -5,7 +5,7 @@ ghost use Rattle.kinds.specs.Samples.{Samples as OfKinds};
 ghost use Rattle.limits.specs.Samples.{Samples as OfLimits};
 ghost use Rattle.support.specs.Samples.{Samples as OfSupport};
 
-// All defined readings agree with their samples.
+// The definitions of the measure, paths, attributes, status, limits, targets, system calls and page words agree with their samples.
 pub fn all_samples_agree()
     ensures { OfKinds × (OfLimits × OfSupport) }
 {

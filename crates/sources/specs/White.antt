@@ -9,7 +9,7 @@ abbrev pub trim_front : List ℕ → List ℕ
 trim_front [] = []
 trim_front (c ∷ cs) = cond (is_whitespace c) (trim_front cs) (c ∷ cs)
 
--- c before what is left of the characters behind it
+-- c and what is left behind it; a white c with nothing left behind it goes too
 abbrev pub keep : ℕ → List ℕ → List ℕ
 keep c [] = cond (is_whitespace c) [] (c ∷ [])
 keep c (d ∷ ds) = c ∷ d ∷ ds

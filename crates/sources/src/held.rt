@@ -4,7 +4,7 @@ ghost use Rattle.sources.specs.Texts.{text};
 
 use crate::source::{Piece, Source, reach};
 
-// Bytes in the caller's memory, from a place on; they end clean. (That it is a slice with a place is a rule of the project.)
+// Bytes in the caller's memory, from a place on; they end clean.
 #[derive(Drop)]
 pub struct Held<'a> {
     bytes: &'a [u8],

@@ -31,7 +31,7 @@ pub trait Kind: Sized {
     // Which lines are foreign.
     ghost foreign: { List ℕ → Bool };
 
-    // What a kind that writes to lent memory keeps: which memory it is. It has no default, since each kind proves the two laws of its own.
+    // What a kind that writes to lent memory keeps: which memory it is. No default: each kind proves `framed` and `still` of its own frame.
     ghost frame: { Self → Self → Type 0 };
 
     fn take(&mut self, line: &str) -> Result<(), Fault>

@@ -3,7 +3,7 @@ ghost use Rattle.std.specs.Option.{option_map};
 ghost use Rattle.sources.specs.Pieces.{bytes_of, bytes_of_2, cut_at, past as past_of, shorn as shorn_of, up_to as up_to_of};
 ghost use Rattle.sources.specs.White.{trim as trim_of, trim_start as trim_start_of};
 
-// Each of these is a method of the library, with a contract that is an executable definition.
+// Methods of the library, and `up_to` over them, each under a contract that is an executable definition.
 
 // What stands before the first `at`, an ASCII character, and what stands after it.
 pub fn cut(text: &str, at: char) -> Option<(&str, &str)>

@@ -35,7 +35,7 @@ impl Reason {
         self as u8
     }
 
-    // No Display: callers want the word itself, which is not made anew.
+    // Answers the stored word; a Display would have to copy it.
     pub fn word(self) -> &'static str
         ensures { result.now ≡ word_of self }
     {

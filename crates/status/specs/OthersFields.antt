@@ -1,4 +1,4 @@
--- Privileges, processors, memory nodes, switches and flags: a slot for each, and the order in which they are judged. What each line holds is after proc(5).
+-- Privileges, processors, memory nodes, switches and flags: a slot for each, and the order in which they are judged. What each line holds is after proc(5), and of `THP_enabled` after the kernel's proc.rst.
 use Rattle.std.specs.Prelude.{List, Ok, Result}
 use Rattle.sources.specs.declared.fault.Fault.{Fault}
 use Rattle.sources.specs.declared.number.Radix.TheVariants.{Decimal}

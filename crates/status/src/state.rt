@@ -18,7 +18,7 @@ pub enum ProcState {
 }
 
 impl ProcState {
-    // By its letter, which is matched here by a rule of the project.
+    // By its letter: twelve letters for eleven states, matched as literals.
     pub fn from_char(c: char) -> Option<ProcState>
         ensures { result ≡ state_of c }
     {

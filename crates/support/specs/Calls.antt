@@ -1,4 +1,4 @@
--- The system call that a process is blocked in: its number, six arguments, the stack pointer and the program counter. After proc(5), /proc/pid/syscall.
+-- The system call that a process is blocked in: its number, six arguments, the stack pointer and the program counter. After proc(5), /proc/pid/syscall, but for its form of three pieces, which is refused.
 use Rattle.std.specs.Prelude.{ℕ, zero, suc, cond, List, [], ◌∷◌, length, ℤ, None, Some, Ok, Err, codes, Option, Result, ◌==◌, slice_index, nat_lt}
 use Rattle.std.specs.List.{slice_split}
 use Rattle.std.specs.Option.{unwrap_or}

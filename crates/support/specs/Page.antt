@@ -37,7 +37,7 @@ exclusively_mapped = is_set 56
 abbrev pub write_protected : ℕ → Bool
 write_protected = is_set 57
 
--- Bits 58 to 60 say nothing: the kernel writes 0.
+-- Bits 58 to 60 have no name here; proc(5) has zeros there since Linux 3.11.
 abbrev pub spare : ℕ → ℕ
 spare = bits_from 58 3
 
@@ -53,7 +53,7 @@ swapped = is_set 62
 abbrev pub present : ℕ → Bool
 present = is_set 63
 
--- A word is of a swapped page if its bit says so, else of one in memory; either keeps the whole word.
+-- A word with bit 62 is a SwapPage; any other, of a page in memory or of none, is a MemoryPage. Either keeps the whole word.
 abbrev pub page_of : ℕ → PageInfo
 page_of word = cond (swapped word) (SwapPage (record { bits = word })) (MemoryPage (record { bits = word }))
 

@@ -43,14 +43,14 @@ seen_in r = result_map_both told (λ f. f) r
 abbrev pub bracketed : List ℕ → Option (List ℕ)
 bracketed bs = case_of (past (codes "[") bs) None (shorn (codes "]"))
 
--- The inode that brackets hold: brackets that lack or are empty are refused otherwise than a bad number.
+-- The inode that brackets hold: brackets that are missing or empty are refused otherwise than a bad number.
 abbrev pub held_inode : List ℕ → Result ℕ Fault
 held_inode digits = cond (bytes_eq digits []) (Err (fault Bracket)) (as_fault (unsigned 64 Decimal digits))
 
 abbrev pub inode_of : List ℕ → Result ℕ Fault
 inode_of rest = case_of (bracketed rest) (Err (fault Bracket)) held_inode
 
--- A type that no rule is of: with an inode, or whatever follows its colon.
+-- Any other type: with an inode, or with what follows its colon.
 abbrev pub foreign_of : List ℕ → List ℕ → Result ℕ Fault → Target
 foreign_of kind rest (Ok n) = other kind n
 foreign_of kind rest (Err f) = unknown kind rest

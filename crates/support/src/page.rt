@@ -1,7 +1,7 @@
 ghost use Rattle.std.specs.Prelude.{◌≡◌, ℕ, ◌<◌, ◌^◌};
 ghost use Rattle.support.specs.Page.{page_frame_number, page_of, soft_dirty, exclusively_mapped, write_protected, file_or_shared_anon, swapped, present, swap_offset, swap_type, memory_word, swap_word};
 
-// What a word says whether it is of a page in memory or of a swapped one.
+// What a word says of its page, of whichever sort.
 pub trait PageFlags: Sized {
     ghost word: { Self → ℕ };
 
@@ -46,7 +46,7 @@ pub trait PageFlags: Sized {
     }
 }
 
-// The word of a page in memory.
+// The word of a page that is not swapped.
 #[derive(Clone, Copy, PartialEq, Eq, Debug)]
 pub struct MemoryPageFlags {
     pub bits: u64,
