@@ -19,3 +19,4 @@ pub mod Trims
 pub mod Spaced
 pub mod Found
 pub mod Cut
+pub mod Folds

@@ -12,4 +12,5 @@ pub mod Utf8
 pub mod Rules
 pub mod Lines
 pub mod Came
+pub mod Folded
 pub mod Editions

@@ -1,6 +1,7 @@
 ghost use Rattle.std.specs.Prelude.{◌≡◌, ℕ, ◌+◌, ◌<◌, ◌≤◌, Bool, true, false, List, length};
 ghost use Rattle.sources.specs.Came.{Came};
 ghost use Rattle.sources.specs.Editions.{NewerReadsSame};
+ghost use Rattle.sources.specs.Folded.{FoldsLines};
 ghost use Rattle.sources.specs.Lines.{reading, course, broke as broke_of};
 
 use crate::fault::{Refusal, at_line};
@@ -107,7 +108,8 @@ fn lines<S: Source, K: Kind>(source: &mut S, kind: &mut K) -> Result<u32, Refusa
 
 // Reads a text by a kind, which is closed and gone then.
 pub fn read<S: Source, K: Close + Drop>(source: &mut S, kind: K) -> Result<K::Closed, Refusal>
-    ensures { (result, S.text source.new) ≡ reading K.Kind.rules (K.Kind.means kind) (S.text source.old) }
+    ensures reading { (result, S.text source.new) ≡ reading K.Kind.rules (K.Kind.means kind) (S.text source.old) }
+    ensures folds { FoldsLines K.Kind.rules (K.Kind.means kind) (S.text source.old) result (S.text source.new) }
 {
     let mut kind = kind;
     let taken = lines(source, &mut kind)?;
@@ -117,6 +119,7 @@ pub fn read<S: Source, K: Close + Drop>(source: &mut S, kind: K) -> Result<K::Cl
 // Reads a text by a kind that is closed where it stands.
 pub fn fill<S: Source, K: Finish>(source: &mut S, kind: &mut K) -> Result<K::Closed, Refusal>
     ensures reading { (result, S.text source.new) ≡ reading K.Kind.rules (K.Kind.means kind.old) (S.text source.old) }
+    ensures folds { FoldsLines K.Kind.rules (K.Kind.means kind.old) (S.text source.old) result (S.text source.new) }
     ensures means { K.Kind.means kind.new ≡ (course K.Kind.rules (K.Kind.means kind.old) (S.text source.old)).1 }
     ensures frame { K.Kind.frame kind.old kind.new }
 {
