@@ -6,9 +6,11 @@ use Rattle.std.specs.Option.{option_map, ok_or, unwrap_or}
 use Rattle.std.specs.Result.{result_ok, result_map_both}
 use Rattle.std.specs.Str.{bytes_eq}
 use Rattle.sources.specs.declared.fault.Fault.{Fault}
+use Rattle.sources.specs.declared.fault.Refusal.{Refusal}
 use Rattle.sources.specs.declared.number.Radix.TheVariants.{Decimal, Hexadecimal}
 use Rattle.sources.specs.declared.reason.Reason.TheVariants.{Torn}
-use Rattle.sources.specs.Faults.{fault, as_fault, and_then}
+use Rattle.sources.specs.AsText.{as_text}
+use Rattle.sources.specs.Faults.{fault, as_fault, and_then, at_line}
 use Rattle.sources.specs.Number.{unsigned}
 use Rattle.sources.specs.Pieces.{case_of, up_to, past, shorn}
 use Rattle.sources.specs.White.{trim, trim_start}
@@ -86,3 +88,10 @@ name_of name bs =
 -- A path is told by its name, the path without white space around it.
 abbrev pub path_of : List ℕ → Result Named Fault
 path_of bs = name_of (trim bs) bs
+
+-- The path of bytes that may be no text.
+abbrev pub path_in : List ℕ → Result Named Refusal
+path_in bytes = at_line 0 (and_then (as_text bytes) path_of)
+
+abbrev pub seen_in : Result MMapPath Refusal → Result Named Refusal
+seen_in r = result_map_both told (λ f. f) r

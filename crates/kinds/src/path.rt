@@ -1,12 +1,13 @@
 ghost use Rattle.std.specs.Prelude.{◌≡◌};
 ghost use Rattle.std.specs.Option.{option_map};
-ghost use Rattle.kinds.specs.Path.{bracketed as bracketed_of, eight as eight_of, file_of, key_of, named_of, path_of, seen, thread_of};
+ghost use Rattle.kinds.specs.Path.{bracketed as bracketed_of, eight as eight_of, file_of, key_of, named_of, path_in, path_of, seen, seen_in, thread_of};
 ghost use Rattle.sources.specs.Pieces.{bytes_of};
 
-use sources::fault::Fault;
+use sources::fault::{Fault, Refusal, at_line};
 use sources::number::{FromStrRadix, Radix};
 use sources::pieces::{past, shorn, trimmed, trimmed_start, up_to};
 use sources::reason::Reason;
+use sources::text::text;
 
 // What a mapping is of, as the last piece of its line says it.
 #[derive(Clone, Copy, PartialEq, Eq, Debug)]
@@ -99,5 +100,12 @@ impl<'a> MMapPath<'a> {
             "[rollup]" => Ok(MMapPath::Rollup),
             _ => read_named(name, text),
         }
+    }
+
+    // The same of bytes, which may be no text.
+    pub fn from_bytes(bytes: &'a [u8]) -> Result<MMapPath<'a>, Refusal>
+        ensures { seen_in result ≡ path_in bytes.now }
+    {
+        at_line(text(bytes).and_then(MMapPath::from), 0)
     }
 }

@@ -125,6 +125,9 @@ mod tests {
         for (text, path) in table {
             assert_eq!(rt; MMapPath::from(text), Ok(path));
         }
+        assert_eq!(rt; MMapPath::from_bytes(b"[heap]"), Ok(MMapPath::Heap));
+        let broken = Err(Refusal::new(Reason::Broken, 0));
+        assert_eq!(rt; MMapPath::from_bytes(b"/a\xff"), broken);
         let map = MemoryMap::from_line("1000-2fFf rwxsp 30 4:-5 60 /a\n")?;
         assert_eq!(rt; map.address, (4096, 12287));
         assert_eq!(rt; map.perms, MMPermissions { bits: 31 });

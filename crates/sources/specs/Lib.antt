@@ -9,6 +9,7 @@ pub mod Pieces
 pub mod White
 pub mod Words
 pub mod Utf8
+pub mod AsText
 pub mod Rules
 pub mod Lines
 pub mod Came

@@ -12,4 +12,5 @@ pub mod reason;
 mod recording;
 pub mod source;
 pub mod spool;
+pub mod text;
 pub mod words;

@@ -14,7 +14,7 @@ use Rattle.sources.specs.White.{trim}
 use Rattle.support.specs.declared.syscall.Syscall.{Syscall}
 use Rattle.support.specs.declared.syscall.Syscall.TheVariants.{Running, Blocked}
 use Rattle.support.specs.declared.syscall.Pieces.{Pieces}
-use Rattle.support.specs.Texts.{text_of}
+use Rattle.sources.specs.AsText.{as_text}
 
 -- The pieces between single spaces; two spaces in a row have an empty one between them.
 abbrev pub pieces_of : List ℕ → List (List ℕ)
@@ -69,7 +69,7 @@ line_of t = cond (bytes_eq t (codes "running")) (Ok Running) (blocked_of (pieces
 
 -- Bytes: too many are refused, then what is no text.
 abbrev pub call_of : List ℕ → Result Syscall Fault
-call_of bytes = cond (nat_lt 4096 (length bytes)) (Err (fault LongLine)) (and_then (text_of bytes) (λ t. line_of (trim t)))
+call_of bytes = cond (nat_lt 4096 (length bytes)) (Err (fault LongLine)) (and_then (as_text bytes) (λ t. line_of (trim t)))
 
 abbrev pub call_in : List ℕ → Result Syscall Refusal
 call_in bytes = at_line 0 (call_of bytes)

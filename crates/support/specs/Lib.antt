@@ -1,4 +1,3 @@
-pub mod Texts
 pub mod Target
 pub mod Calls
 pub mod Page

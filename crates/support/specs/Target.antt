@@ -11,7 +11,7 @@ use Rattle.sources.specs.Number.{unsigned}
 use Rattle.sources.specs.Pieces.{case_of, cut_at, past, shorn}
 use Rattle.support.specs.declared.target.FDTarget.{FDTarget}
 use Rattle.support.specs.declared.target.FDTarget.TheVariants as code
-use Rattle.support.specs.Texts.{text_of}
+use Rattle.sources.specs.AsText.{as_text}
 
 -- A target by its case; a name is a list of bytes.
 pub data Target : Type 0 where
@@ -78,4 +78,4 @@ target_of bs =
 
 -- The target of bytes that may be no text.
 abbrev pub target_in : List ℕ → Result Target Refusal
-target_in bytes = at_line 0 (and_then (text_of bytes) target_of)
+target_in bytes = at_line 0 (and_then (as_text bytes) target_of)

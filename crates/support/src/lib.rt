@@ -5,4 +5,3 @@ pub mod page;
 pub mod samples;
 pub mod syscall;
 pub mod target;
-mod text;

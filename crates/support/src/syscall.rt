@@ -3,11 +3,11 @@ ghost use Rattle.std.specs.Option.{option_map};
 ghost use Rattle.sources.specs.Pieces.{bytes_of};
 ghost use Rattle.support.specs.Calls.{blocked_of, call_in, call_of, first_of, left, number_of, pieces_of, read_first, register_of, registers_of, unprefixed as unprefixed_of};
 
-use crate::text::text;
 use sources::fault::{Fault, Refusal, at_line};
 use sources::number::{FromStrRadix, Radix};
 use sources::pieces::{cut, past, trimmed};
 use sources::reason::Reason;
+use sources::text::text;
 
 // The most bytes that a system call's text may have.
 const MAX_TEXT: usize = 4096;

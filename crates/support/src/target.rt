@@ -4,11 +4,11 @@ ghost use Rattle.sources.specs.Pieces.{bytes_of};
 ghost use Rattle.support.specs.Target.{Target, bracketed as bracketed_of, inode_of, seen, seen_in, target_in, target_of, told, typed_of};
 ghost use Rattle.support.specs.Written.{IsWritten, is_plain};
 
-use crate::text::text;
 use sources::fault::{Fault, Refusal, at_line};
 use sources::number::{FromStrRadix, Radix};
 use sources::pieces::{cut, past, shorn};
 use sources::reason::Reason;
+use sources::text::text;
 
 // What a descriptor stands for, as the name of its link says it.
 #[derive(Clone, Copy, PartialEq, Eq, Debug)]

@@ -1,14 +1,14 @@
 ghost use Rattle.std.specs.Prelude.{◌≡◌};
-ghost use Rattle.support.specs.Texts.{seen_text, text_of};
+ghost use Rattle.sources.specs.AsText.{as_text, seen_text};
 
-use sources::fault::Fault;
-use sources::reason::Reason;
+use crate::fault::Fault;
+use crate::reason::Reason;
 use std::str::from_utf8;
 
 // The text that bytes are.
-#[tactic(auto, using(sources::proofs::Steps::text_true, sources::proofs::Steps::text_false))]
+#[tactic(auto, using(crate::proofs::Steps::text_true, crate::proofs::Steps::text_false))]
 pub fn text(bytes: &[u8]) -> Result<&str, Fault>
-    ensures { seen_text result ≡ text_of bytes.now }
+    ensures { seen_text result ≡ as_text bytes.now }
 {
     match from_utf8(bytes) {
         Ok(text) => Ok(text),

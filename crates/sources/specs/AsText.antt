@@ -9,8 +9,8 @@ use Rattle.sources.specs.Pieces.{bytes_of}
 use Rattle.sources.specs.Utf8.{is_utf8}
 
 -- Bytes that are UTF-8 are a text; others are none.
-abbrev pub text_of : List ℕ → Result (List ℕ) Fault
-text_of bs = cond (is_utf8 bs) (Ok bs) (Err (fault Broken))
+abbrev pub as_text : List ℕ → Result (List ℕ) Fault
+as_text bs = cond (is_utf8 bs) (Ok bs) (Err (fault Broken))
 
 -- A borrowed text, by its bytes.
 abbrev pub seen_text : Result (Bor (List ℕ)) Fault → Result (List ℕ) Fault
