@@ -23,3 +23,8 @@ report_of input = cond (nat_lt 65536 (length input)) (told (Err (refused LongTex
 abbrev pub line_of : Result Charged Refused → List ℕ
 line_of (Ok c) = codes "mappings " ++ (decimal c.0.mappings ++ (codes " rss " ++ (decimal c.0.totals.rss ++ (codes " pss " ++ (decimal c.0.totals.pss ++ (codes " swappss " ++ decimal c.0.totals.swap_pss))))))
 line_of (Err r) = codes "refused " ++ (decimal (number_of r.0.reason) ++ (codes " line " ++ decimal r.0.line))
+
+-- The exit status: 0 of a charge, 1 of a refusal.
+abbrev pub status_of : Result Charged Refused → ℕ
+status_of (Ok c) = 0
+status_of (Err r) = 1

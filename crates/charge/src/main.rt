@@ -3,11 +3,14 @@
 
 mod report;
 
-ghost use Rattle.std.specs.Prelude.{◌≤◌, length, IfOk};
+ghost use Rattle.std.specs.Prelude.{◌≡◌, ◌<◌, ◌≤◌, ◌++◌, [], ◌∷◌, length, take, IfOk, IfSome, OnOk};
+ghost use Rattle.std.specs.Io.KnownBytes.{Appends, Consumes, IsAtEnd};
+ghost use Rattle.std.specs.Process.{exit_status};
+ghost use Rattle.charge.specs.Report.{report_of, line_of, status_of};
 
-use report::{LONGEST, charge};
+use report::{Charged, LONGEST, Refused, charge};
 use std::io;
-use std::io::Read;
+use std::io::{Read, Write};
 use std::process::ExitCode;
 
 // One byte more than an input may have.
@@ -16,15 +19,14 @@ const ROOM: usize = LONGEST + 1;
 // Reads until the end of the input or of the buffer, and answers how many bytes came.
 // No Vec: want of memory would be an error of this program, which has none of its own now (docs/DECISIONS.md).
 fn read_all<R: Read>(input: &mut R, buf: &mut [u8]) -> io::Result<usize>
-    ensures { IfOk result (λ n. n ≤ length buf.new) }
+    ensures bound { IfOk result (λ n. n ≤ length buf.new) }
+    ensures bytes { IfOk result (λ n. Consumes (R.remaining input.old) (R.remaining input.new) (take n buf.new)) }
+    ensures end { IfOk result (λ n. n < length buf.old → IsAtEnd (R.remaining input.new)) }
 {
     let mut len = 0;
-    for _ in 0..ROOM {
-        if len >= buf.len() {
-            break;
-        }
+    while len < buf.len() {
         let n = input.read(&mut buf[len..])?;
-        if n == 0 || n > buf.len() - len {
+        if n == 0 {
             break;
         }
         len += n;
@@ -32,17 +34,41 @@ fn read_all<R: Read>(input: &mut R, buf: &mut [u8]) -> io::Result<usize>
     Ok(len)
 }
 
-fn main(rt: HostRuntime) -> anyhow::Result<ExitCode> {
+// The charge of all that the input gives.
+fn charge_all<R: Read>(input: &mut R) -> io::Result<Result<Charged, Refused>>
+    ensures { IfOk result (λ said. IfSome (R.remaining input.old) (λ bytes. said ≡ report_of bytes)) }
+{
     let mut buf = [0u8; ROOM];
-    let len = read_all(&mut rt.stdin(), &mut buf)?;
-    match charge(&buf[0..len]) {
+    let len = read_all(input, &mut buf)?;
+    Ok(charge(&buf[..len]))
+}
+
+// Writes the line, and answers the exit status.
+fn say<W: Write>(output: &mut W, said: Result<Charged, Refused>) -> io::Result<ExitCode>
+    ensures line { OnOk result (Appends (W.contents output.old) (W.contents output.new) (line_of said ++ (10 ∷ []))) }
+    ensures status { IfOk result (λ code. exit_status code ≡ status_of said) }
+{
+    match said {
         Ok(charged) => {
-            rt.println(charged)?;
+            output.writeln(charged)?;
             Ok(ExitCode::SUCCESS)
         }
         Err(refused) => {
-            rt.println(refused)?;
+            output.writeln(refused)?;
             Ok(ExitCode::FAILURE)
         }
     }
+}
+
+// The program: of all bytes of the input, where they are known, the line and the status.
+fn run<R: Read, W: Write>(input: &mut R, output: &mut W) -> io::Result<ExitCode>
+    ensures line { OnOk result (IfSome (R.remaining input.old) (λ bytes. Appends (W.contents output.old) (W.contents output.new) (line_of (report_of bytes) ++ (10 ∷ [])))) }
+    ensures status { IfOk result (λ code. IfSome (R.remaining input.old) (λ bytes. exit_status code ≡ status_of (report_of bytes))) }
+{
+    let said = charge_all(input)?;
+    say(output, said)
+}
+
+fn main(rt: HostRuntime) -> anyhow::Result<ExitCode> {
+    Ok(run(&mut rt.stdin(), &mut io::writer(&rt))?)
 }

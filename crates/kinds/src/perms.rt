@@ -46,4 +46,9 @@ impl MMPermissions {
         }
         MMPermissions { bits }
     }
+
+    // The constants are the bits of the letters r, w, x, s and p, and of a byte that is none.
+    pub fn constants_are_bits()
+        ensures { (MMPermissions.READ ≡ bit_of 114) × (MMPermissions.WRITE ≡ bit_of 119) × (MMPermissions.EXECUTE ≡ bit_of 120) × (MMPermissions.SHARED ≡ bit_of 115) × (MMPermissions.PRIVATE ≡ bit_of 112) × (MMPermissions.NONE ≡ bit_of 0) }
+    {}
 }

@@ -31,7 +31,7 @@ drop_front {A} [] ys = refl
 drop_front {A} (x ∷ xs) ys = drop_front xs ys
 
 -- where a key stands among the later ones
-spot_is : (key : Counted ℕ 32) (front cur entries : List Entry) → spot key (length front) (used (full (front ++ cur) entries)) ≡ option_map (λ i. length front + i) (place_of key cur)
+pub spot_is : (key : Counted ℕ 32) (front cur entries : List Entry) → spot key (length front) (used (full (front ++ cur) entries)) ≡ option_map (λ i. length front + i) (place_of key cur)
 unfolding spot
 spot_is key front cur entries = rw (used_full (front ++ cur) entries, drop_front front cur)
 
@@ -72,10 +72,10 @@ module _ (rows : List Row) (entries : List Entry) where
 
   -- a value for the last row: of a new key, and of one that is there
   module _ (done : List Row) (r : Row) (flags : ℕ) (front cur : List Entry) (b : ℕ) (v : Entry) (t : Tables) where
-    abbrev row : Row
+    abbrev pub row : Row
     row = with_rest flags (length front) (length cur) r
 
-    abbrev was : Tables
+    abbrev pub was : Tables
     was = tables_of rows entries (done ++ (row ∷ [])) (front ++ cur) b
 
     -- what the tables are to be, with other entries
@@ -99,7 +99,7 @@ module _ (rows : List Row) (entries : List Entry) where
         let w = full_written (front ++ cur) entries (length front + i) v (omega (arith, length-append front cur)) ∙ ap (λ (es : List Entry). full es entries) (set_back front cur i v) in
         rw n (z ∙ ap (λ (es : Cells Entry). record was { entries = es }) w)
 
-    abbrev found : Option ℕ → Result Tables Fault
+    abbrev pub found : Option ℕ → Result Tables Fault
     found o = case_of o (entered v row was) (λ i. Ok (record was { entries = written i v was.entries }))
 
     value_is : (o : Option ℕ) → place_of v.key cur ≡ o → found (option_map (λ i. length front + i) o) ≡ Ok t → t ≡ with_entries (case_of o (cur ++ (v ∷ [])) (λ i. slice_set cur i v))
@@ -120,7 +120,7 @@ module _ (rows : List Row) (entries : List Entry) where
       value_is done r flags front cur b v t (place_of v.key cur) refl (sym (ap (found done r flags front cur b v t) (spot_is v.key front cur entries)) ∙ e)
 
   -- an attribute line, where a row is open
-  attribute_line : (done : List Row) (r : Row) (flags : ℕ) (front cur : List Entry) (b : ℕ) (l : List ℕ) (t : Tables) → capital l ≡ true →
+  pub attribute_line : (done : List Row) (r : Row) (flags : ℕ) (front cur : List Entry) (b : ℕ) (l : List ℕ) (t : Tables) → capital l ≡ true →
       after_line l (tables_of rows entries (done ++ (with_rest flags (length front) (length cur) r ∷ [])) (front ++ cur) b) ≡ Ok t →
       t ≡ tables_of rows entries (done ++ (with_rest (flagged flags (saying_of l)) (length front) (length (noted cur (saying_of l))) r ∷ [])) (front ++ noted cur (saying_of l)) (further b (length l))
   unfolding sort_of

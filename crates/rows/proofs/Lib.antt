@@ -5,4 +5,5 @@ mod Walked
 mod Spelled
 mod Placed
 mod Blocked
+mod Accepted
 mod Told

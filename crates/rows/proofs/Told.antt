@@ -1,5 +1,5 @@
 -- An accepted text is told by its mappings.
-use Rattle.std.proofs.Common.{◌≡◌, ℕ, ◌+◌, ◌≤◌, List, [], ◌∷◌, length, drop, Ok, Err, Result, refl, sym, ap, ◌∙◌, arith, inl, inr}
+use Rattle.std.proofs.Common.{◌≡◌, ℕ, Bool, ◌+◌, ◌≤◌, List, [], ◌∷◌, length, drop, Ok, Err, Result, refl, sym, ap, ◌∙◌, arith, inl, inr}
 use Rattle.std.proofs.lemmas.Bool.{cases_Bool}
 use Rattle.sources.specs.declared.fault.Refusal.{Refusal}
 use Rattle.sources.specs.Faults.{and_then}
@@ -19,6 +19,10 @@ use Rattle.rows.proofs.Fulls.{full}
 use Rattle.rows.proofs.Walked.{Walked, folded, walked}
 use Rattle.rows.proofs.Placed.{stand}
 use Rattle.rows.specs.Placed.{NamesAtPlaces}
+use Rattle.rows.specs.Accepted.{AcceptsReadable}
+use Rattle.rows.proofs.Accepted.{all_fit, accepted}
+use Rattle.sources.proofs.Walks.{ends}
+use Rattle.std.specs.Result.{is_ok}
 
 -- the tables after all lines
 record All (rows : List Row) (entries : List Entry) (ls : List (List ℕ)) (t : Tables) : Type 0 where
@@ -74,7 +78,7 @@ module _ (t : Text) (rows rows' : List Row) (entries entries' : List Entry) (r :
   unfolding rows_of reading course leaves
   answer = ap (λ (o : Left). o.0) e ∙ settled_first (length rows) (length entries) (closing row_rules walk_of.0 walk_of.1) _ walk_of.1
 
-  well : (n : Counts) → r ≡ Ok n → Walked max_text row_rules t.broken 0 (fresh rows entries) (lines_of t.bytes) walk_of n
+  well : (n : Counts) → r ≡ Ok n → Walked max_line max_text row_rules t.broken 0 (fresh rows entries) (lines_of t.bytes) walk_of n
   well n q = walked max_line max_text row_rules t.broken refl 0 0 (fresh rows entries) (lines_of t.bytes) n (omega arith) (sym answer ∙ q)
 
   pub told_by : ToldByMappings t rows entries r rows' entries'
@@ -93,6 +97,16 @@ module _ (t : Text) (rows rows' : List Row) (entries entries' : List Entry) (r :
         },
       )
 
+  pub accepts_by : AcceptsReadable t rows entries r
+  accepts_by = (
+    λ n q.
+        let k = well n q in
+        let s = shut (folded row_rules (fresh rows entries) (lines_of t.bytes)) n k.shuts in
+        let h = k.fits in
+        (k.clean, all_fit rows entries (lines_of t.bytes) s.0 (omega (arith, h)) k.texts k.short s.1),
+    λ g. ap is_ok (answer ∙ ap (λ (b : Bool). ends row_rules (walk max_line max_text row_rules b 0 0 (fresh rows entries) (lines_of t.bytes))) g.0) ∙ accepted rows entries (lines_of t.bytes) g.1,
+  )
+
   pub names_by : NamesAtPlaces t r rows'
   names_by n q =
       let k = well n q in
@@ -103,7 +117,7 @@ module _ (t : Text) (rows rows' : List Row) (entries entries' : List Entry) (r :
 -- what is shown of an answer and of the cells
 abbrev pub Shown : Text → List Row → List Row → List Entry → List Entry → Result Counts Refusal → Text → Type 0
 Shown t rows rows' entries entries' r left =
-    record { defined : ◌≡◌ {A = Left} (r, rows', entries', left) (rows_of rows entries t); mappings : ToldByMappings t rows entries r rows' entries'; names : NamesAtPlaces t r rows' }
+    record { defined : ◌≡◌ {A = Left} (r, rows', entries', left) (rows_of rows entries t); mappings : ToldByMappings t rows entries r rows' entries'; names : NamesAtPlaces t r rows'; accepts : AcceptsReadable t rows entries r }
 
 pub shown : (t : Text) (rows rows' : List Row) (entries entries' : List Entry) (r : Result Counts Refusal) (left : Text) → ◌≡◌ {A = Left} (r, rows', entries', left) (rows_of rows entries t) → Shown t rows rows' entries entries' r left
-shown t rows rows' entries entries' r left e = record { defined = e; mappings = told_by t rows rows' entries entries' r left e; names = names_by t rows rows' entries entries' r left e }
+shown t rows rows' entries entries' r left e = record { defined = e; mappings = told_by t rows rows' entries entries' r left e; names = names_by t rows rows' entries entries' r left e; accepts = accepts_by t rows rows' entries entries' r left e }
