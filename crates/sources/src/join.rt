@@ -1,4 +1,4 @@
-ghost use Rattle.std.specs.Prelude.{◌≡◌};
+ghost use Rattle.std.specs.Prelude.{◌≡◌, true};
 ghost use Rattle.sources.specs.Given.{Given};
 ghost use Rattle.sources.specs.Texts.{joined};
 
@@ -24,7 +24,11 @@ impl<A: Source, B: Source> Join<A, B> {
 impl<A: Source, B: Source> Source for Join<A, B> {
     ghost text = { λ j. joined (A.text j.first) (B.text j.second) };
 
-    fn piece(&mut self, buf: &mut [u8]) -> Piece {
+    fn piece(&mut self, buf: &mut [u8]) -> Piece
+        ensures given { Given buf.old (joined (A.text self.old.first) (B.text self.old.second)) result buf.new (joined (A.text self.new.first) (B.text self.new.second)) }
+        // Behind a broken first the second is not asked for anything.
+        ensures second { (A.text self.old.first).broken ≡ true → self.new.second ≡ self.old.second }
+    {
         if buf.len() == 0 {
             return Piece::Bytes(0);
         }

@@ -6,8 +6,8 @@ use Rattle.sources.proofs.Joins.{Spent, join_first, join_more, join-none, join-b
 use Rattle.sources.proofs.Steps.{none_left}
 use Rattle.sources.proofs.join.JoinSource.piece.Goals as goal
 
-pub returns-then-k-buf : goal.returns-then-k-buf
-returns-then-k-buf g c =
+pub returns-then-k-buf-clause-given : goal.returns-then-k-buf-clause-given
+returns-then-k-buf-clause-given g c =
     join_first _ _ _ _ _ _ _ _ _ (omega arith) c.in-Bytes.ensures
     (elim c.then-k-buf.branch [ then-k-buf-via-then-k-buf w ↦ inl (omega (arith, w.if-k-buf.true)) | then-k-buf-via-else-k-buf+then-buf-k-eq10 w ↦ inr w.if-buf-k-eq10.true ])
 
@@ -23,15 +23,15 @@ gave g c =
       c.piece-in-Bytes.ensures.keeps ∙ e.1,
     )
 
-pub returns-in-Bytes-piece : goal.returns-in-Bytes-piece
-returns-in-Bytes-piece g c =
-    let s = gave g (goal.at.returns-in-Bytes-piece g c).In-Ended-piece in
+pub returns-in-Bytes-piece-clause-given : goal.returns-in-Bytes-piece-clause-given
+returns-in-Bytes-piece-clause-given g c =
+    let s = gave g (goal.at.returns-in-Bytes-piece-clause-given g c).In-Ended-piece in
     join_more _ _ _ _ _ _ _ _ _ _ _ _ _ _ s.0 s.1 s.2 c.in-Bytes-piece.ensures
 
-pub returns-in_default-piece : goal.returns-in_default-piece
-returns-in_default-piece g c =
-    let s = gave g (goal.at.returns-in_default-piece g c).In-Ended-piece in
+pub returns-in_default-piece-clause-given : goal.returns-in_default-piece-clause-given
+returns-in_default-piece-clause-given g c =
+    let s = gave g (goal.at.returns-in_default-piece-clause-given g c).In-Ended-piece in
     join-none _ _ _ _ _ _ _ _ _ _ _ _ _ _ s.0 s.1 s.2 c.piece-in-Ended-piece.ensures c.in_default-piece.not-Bytes
 
-pub returns-in_default : goal.returns-in_default
-returns-in_default g c = join-broken _ _ _ _ _ _ _ _ _ _ _ _ _ (omega arith) (omega arith) c.in-Bytes.ensures c.if-buf-k-eq10.false (omega arith) c.piece-in-Bytes.ensures c.in_default.not-Ended
+pub returns-in_default-clause-given : goal.returns-in_default-clause-given
+returns-in_default-clause-given g c = join-broken _ _ _ _ _ _ _ _ _ _ _ _ _ (omega arith) (omega arith) c.in-Bytes.ensures c.if-buf-k-eq10.false (omega arith) c.piece-in-Bytes.ensures c.in_default.not-Ended
