@@ -7,16 +7,19 @@ mod answer;
 mod damage;
 mod dice;
 mod differences;
+mod escape;
 mod inputs;
 mod machine;
 mod ours;
 mod reference;
+mod text;
 
 use answer::Answer;
 use damage::damaged;
 use dice::Dice;
 use differences::{due, Difference, Due};
 use std::process::ExitCode;
+use text::Text;
 
 #[derive(Clone, Copy)]
 enum Sort {
@@ -96,7 +99,7 @@ fn as_due(due: &Due, answer: &Result<Answer, String>) -> bool {
 
 /// Whether the answers to the text differ, and no intended difference says why.
 fn differs_otherwise(text: &[u8]) -> bool {
-    !as_due(&due(text), &ours::measure(text))
+    !as_due(&due(Text::whole(text)), &ours::measure(text))
 }
 
 /// A shorter text that still differs otherwise: lines and then bytes taken out.
@@ -130,7 +133,7 @@ fn shorten<T: Clone>(items: &mut Vec<T>, holds: impl Fn(&[T]) -> bool) {
 impl Counts {
     fn compare(&mut self, sort: Sort, text: &[u8]) {
         self.inputs[sort as usize] += 1;
-        let due = due(text);
+        let due = due(Text::whole(text));
         let answer = ours::measure(text);
         if !as_due(&due, &answer) {
             self.otherwise += 1;

@@ -5,7 +5,7 @@ mod inputs;
 mod names;
 mod reference;
 
-use crate::record::Reading;
+use crate::record::{block, Answer, Reading};
 
 pub fn reading() -> Reading {
     reference::check();
@@ -18,5 +18,8 @@ pub fn reading() -> Reading {
         differences: differences::Difference::ALL
             .map(differences::Difference::name)
             .to_vec(),
+        refusals: &[2, 3, 5, 6, 11],
+        block: Some(block(&inputs::plain(), "a b ")),
+        written: Answer::to_string,
     }
 }

@@ -6,7 +6,7 @@ mod inputs;
 mod names;
 mod reference;
 
-use crate::record::Reading;
+use crate::record::{block, Answer, Reading};
 
 pub fn reading() -> Reading {
     reference::check();
@@ -19,5 +19,8 @@ pub fn reading() -> Reading {
         differences: differences::Difference::ALL
             .map(differences::Difference::name)
             .to_vec(),
+        refusals: &[1, 2, 3, 5, 6, 11, 12],
+        block: Some(block(&inputs::least(), "Junk:")),
+        written: Answer::to_string,
     }
 }
