@@ -18,7 +18,12 @@ pub enum Sort {
 }
 
 pub const SORTS: [&str; 6] = [
-    "real", "listed", "generated", "damaged", "broken off", "huge",
+    "real",
+    "listed",
+    "generated",
+    "damaged",
+    "broken off",
+    "huge",
 ];
 
 pub struct Cases<'a> {
@@ -50,8 +55,16 @@ impl Cases<'_> {
             Vec::new()
         };
         real.map(|text| (Sort::Real, Case::whole(text)))
-            .chain(listed.into_iter().map(|text| (Sort::Listed, Case::whole(text))))
-            .chain(broken.into_iter().map(|text| (Sort::BrokenOff, Case::broken(text))))
+            .chain(
+                listed
+                    .into_iter()
+                    .map(|text| (Sort::Listed, Case::whole(text))),
+            )
+            .chain(
+                broken
+                    .into_iter()
+                    .map(|text| (Sort::BrokenOff, Case::broken(text))),
+            )
     }
 
     /// So many that dice make.
@@ -91,7 +104,8 @@ impl Cases<'_> {
         ];
         let blocks = self.reading.block.iter();
         blocks.flat_map(move |block| {
-            ends.map(|(end, broken)| (Sort::Huge, Case::doubled(block, 12, end, broken)))
+            ends.into_iter()
+                .map(move |(end, broken)| (Sort::Huge, Case::doubled(block, 12, end, broken)))
         })
     }
 }
@@ -104,7 +118,9 @@ fn cut(dice: &mut Dice, mut text: Vec<u8>) -> Vec<u8> {
     match dice.below(3) {
         0 => text.truncate(dice.below(text.len() + 1)),
         1 => {
-            let ends: Vec<usize> = (1..=text.len()).filter(|end| text[end - 1] == b'\n').collect();
+            let ends: Vec<usize> = (1..=text.len())
+                .filter(|end| text[end - 1] == b'\n')
+                .collect();
             if !ends.is_empty() {
                 text.truncate(dice.pick(&ends));
             }

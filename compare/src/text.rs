@@ -119,6 +119,14 @@ impl Case {
         }
     }
 
+    /// Other bytes with the same ending.
+    pub fn with(&self, bytes: Vec<u8>) -> Case {
+        Case {
+            broken: self.broken,
+            ..Case::whole(bytes)
+        }
+    }
+
     pub fn text(&self) -> Text<'_> {
         Text {
             bytes: &self.bytes,
@@ -144,5 +152,28 @@ impl Case {
             written += "\\!";
         }
         written
+    }
+
+    /// What such a text of a list stands for. None: it is doubled, or has another form.
+    pub fn unwritten(written: &str) -> Option<Case> {
+        let mut bytes = Vec::new();
+        let mut rest = written.bytes();
+        while let Some(byte) = rest.next() {
+            if byte != b'\\' {
+                bytes.push(byte);
+                continue;
+            }
+            match rest.next()? {
+                b'\\' => bytes.push(b'\\'),
+                b'x' => {
+                    let digits = [rest.next()?, rest.next()?].map(char::from);
+                    let digits = String::from_iter(digits);
+                    bytes.push(u8::from_str_radix(&digits, 16).ok()?);
+                }
+                b'!' => return Some(Case::broken(bytes)),
+                _ => return None,
+            }
+        }
+        Some(Case::whole(bytes))
     }
 }

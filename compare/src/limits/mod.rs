@@ -12,6 +12,7 @@ pub fn reading() -> Reading {
     Reading {
         names: &["limits"],
         fields: names::NAMES.len(),
+        safe_fields: &[],
         listed: inputs::listed,
         generated: inputs::generated,
         due: differences::due,

@@ -16,6 +16,8 @@ pub struct Reading {
     pub names: &'static [&'static str],
     /// The number of fields.
     pub fields: usize,
+    /// Those at which no refusal can come, by the rules.
+    pub safe_fields: &'static [usize],
     /// A list of single cases.
     pub listed: fn() -> Vec<Vec<u8>>,
     pub generated: fn(&mut Dice) -> Vec<u8>,

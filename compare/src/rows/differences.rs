@@ -73,9 +73,7 @@ fn due_in(text: Text, cells: Option<Cells>) -> Result<Due, String> {
     let answer = match &reference {
         Ok(maps) => Some(Answer::Accepted(plain(text.bytes, maps)?)),
         Err((class, line)) => {
-            let last = lines(text.bytes)
-                .nth(line.wrapping_sub(1))
-                .unwrap_or(b"");
+            let last = lines(text.bytes).nth(line.wrapping_sub(1)).unwrap_or(b"");
             number_of(*class, last).map(|number| refused(number, *line))
         }
     };
@@ -172,7 +170,8 @@ fn keys(text: &[u8], all: &MemoryMaps) -> Result<Vec<Vec<String>>, String> {
 
 /// The key that an attribute's line sets, behind the line of its mapping.
 fn key(opening: &[u8], line: &[u8]) -> Result<Option<String>, String> {
-    let two = maps(Text::whole(&[opening, line].concat())).map_err(|_| "a line is refused alone")?;
+    let two =
+        maps(Text::whole(&[opening, line].concat())).map_err(|_| "a line is refused alone")?;
     let map = two.0.into_iter().next().ok_or("no mapping")?;
     Ok(map.extension.map.into_keys().next())
 }
@@ -282,14 +281,14 @@ impl Reading {
         });
         let stop = match &read {
             Err((class, line)) => {
-                let last = lines(&self.bytes)
-                    .nth(line.wrapping_sub(1))
-                    .unwrap_or(b"");
+                let last = lines(&self.bytes).nth(line.wrapping_sub(1)).unwrap_or(b"");
                 let number = number_of(*class, last)
                     .ok_or_else(|| format!("{} on line {line}", class.name()))?;
                 Some((number, *line, None))
             }
-            Ok(_) => self.stop.map(|(number, line, why)| (number, line, Some(why))),
+            Ok(_) => self
+                .stop
+                .map(|(number, line, why)| (number, line, Some(why))),
         };
         if let Some(cells) = cells {
             let good = stop.map_or(usize::MAX, |(_, line, _)| line - 1);

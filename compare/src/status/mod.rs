@@ -13,6 +13,8 @@ pub fn reading() -> Reading {
     Reading {
         names: &["status"],
         fields: names::FIELDS,
+        // An optional text, and flags.
+        safe_fields: &[53, 60, 61],
         listed: inputs::listed,
         generated: inputs::generated,
         due: differences::due,

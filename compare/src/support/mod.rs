@@ -45,6 +45,7 @@ fn reading(
     Reading {
         names,
         fields: 0,
+        safe_fields: &[],
         listed,
         generated,
         due,
