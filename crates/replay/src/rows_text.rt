@@ -64,17 +64,10 @@ impl Display for Rows<'_> {
 }
 
 // The answer where there are tables of so many cells.
-fn answer_in(
-    heap: Global,
-    text: &Text,
-    rows: usize,
-    entries: usize,
-) -> Result<Answer, AllocError> {
+fn answer_in(heap: Global, text: &Text, rows: usize, entries: usize) -> Result<Answer, AllocError> {
     let mut rows = vec![in heap; Row::blank(); rows]?;
     let mut entries = vec![in heap; Entry::blank(); entries]?;
-    let read = text
-        .source()
-        .and_then(|mut source| read_rows(&mut source, &mut rows, &mut entries));
+    let read = text.source().and_then(|mut source| read_rows(&mut source, &mut rows, &mut entries));
     let counts = read.unwrap_or(Counts {
         rows: 0,
         entries: 0,

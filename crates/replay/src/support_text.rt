@@ -136,5 +136,9 @@ fn word(text: &[u8]) -> u64 {
 }
 
 pub fn page_answer(heap: Global, text: &Text) -> Result<Answer, AllocError> {
-    record_answer(heap, Ok(()), Page(PageInfo::parse_info(word(text.bytes.as_slice()))))
+    record_answer(
+        heap,
+        Ok(()),
+        Page(PageInfo::parse_info(word(text.bytes.as_slice()))),
+    )
 }
