@@ -56,13 +56,19 @@ impl Difference {
 }
 
 pub fn due(text: Text) -> Result<Due, String> {
-    let reference = match read::<Status>(text)? {
-        Ok(status) => Answer::Accepted(fields(&status)),
-        Err(refusal) => Answer::Refused(refusal),
+    let plain = read::<Status>(text)?;
+    let reference = match &plain {
+        Ok(status) => Answer::Accepted(fields(status)),
+        Err(refusal) => Answer::Refused(*refusal),
     };
     let head = Head::of(text);
     let adjusted = Adjusted::of(head.text);
-    let ours = match (read::<Status>(adjusted.text())?, head.stop) {
+    let result = if adjusted.text() == text {
+        plain
+    } else {
+        read(adjusted.text())?
+    };
+    let ours = match (result, head.stop) {
         (Err(refusal), _) if refusal.field == 0 => Answer::Refused(refusal),
         (_, Some(stop)) => Answer::Refused(stop),
         (result, None) => adjusted.closed(result)?,
@@ -134,7 +140,10 @@ impl Adjusted {
         let (key, rest) = line.split_once(':')?;
         let name = find(key)?;
         if name.field == 1 {
-            self.name_colon |= rest.contains(':');
+            if !rest.contains(':') {
+                return None;
+            }
+            self.name_colon = true;
             return Some(format!(
                 "{key}:{}",
                 rest.replace(':', &self.colon.to_string())
@@ -147,18 +156,23 @@ impl Adjusted {
                     Some(start) => (start, " kB"),
                     None => (value, ""),
                 };
+                if !start.contains(" kB") {
+                    return None;
+                }
                 // It is no number with one, and with a question mark neither.
-                self.inner_kilo |= start.contains(" kB");
+                self.inner_kilo = true;
                 format!("{}{end}", start.replace(" kB", "?"))
             }
             // No item behind the first one that there is no room for is read.
             (Form::Groups | Form::Pids, Some(room)) => {
-                let items: Vec<&str> = value.split_whitespace().take(room + 1).collect();
-                items.join(" ")
+                let items: Vec<&str> = value.split_whitespace().collect();
+                items.get(..=room)?.join(" ")
             }
             (_, Some(room)) => {
-                let mut items: Vec<&str> = value.split(',').take(room + 1).collect();
-                // The last one kept may have been an inner one, with white that is not trimmed off.
+                let mut items: Vec<&str> = value.split(',').collect();
+                let items = items.get_mut(..=room)?;
+                // The last one kept is an inner one where there are more, with white that is not
+                // trimmed off.
                 match items.last_mut() {
                     Some(last) if *last != last.trim_end() => *last = "?",
                     _ => {}
