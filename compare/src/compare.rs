@@ -7,16 +7,22 @@ mod answer;
 mod damage;
 mod dice;
 mod differences;
+mod escape;
 mod inputs;
 mod machine;
 mod ours;
 mod reference;
+mod shorter;
+#[allow(dead_code)]
+mod text;
 
 use answer::Answer;
 use damage::damaged;
 use dice::Dice;
 use differences::{due, Difference, Due};
+use shorter::cut_down;
 use std::process::ExitCode;
+use text::Text;
 
 #[derive(Clone, Copy)]
 enum Sort {
@@ -96,41 +102,13 @@ fn as_due(due: &Due, answer: &Result<Answer, String>) -> bool {
 
 /// Whether the answers to the text differ, and no intended difference says why.
 fn differs_otherwise(text: &[u8]) -> bool {
-    !as_due(&due(text), &ours::measure(text))
-}
-
-/// A shorter text that still differs otherwise: lines and then bytes taken out.
-fn cut_down(text: &[u8]) -> Vec<u8> {
-    let mut lines: Vec<&[u8]> = text.split_inclusive(|byte| *byte == b'\n').collect();
-    shorten(&mut lines, |lines| differs_otherwise(&lines.concat()));
-    let mut text = lines.concat();
-    if text.len() <= 10_000 {
-        shorten(&mut text, differs_otherwise);
-    }
-    text
-}
-
-fn shorten<T: Clone>(items: &mut Vec<T>, holds: impl Fn(&[T]) -> bool) {
-    let mut step = items.len() / 2;
-    while step > 0 {
-        let mut at = 0;
-        while at < items.len() {
-            let mut fewer = items.clone();
-            fewer.drain(at..items.len().min(at + step));
-            if holds(&fewer) {
-                *items = fewer;
-            } else {
-                at += step;
-            }
-        }
-        step /= 2;
-    }
+    !as_due(&due(Text::whole(text)), &ours::measure(text))
 }
 
 impl Counts {
     fn compare(&mut self, sort: Sort, text: &[u8]) {
         self.inputs[sort as usize] += 1;
-        let due = due(text);
+        let due = due(Text::whole(text));
         let answer = ours::measure(text);
         if !as_due(&due, &answer) {
             self.otherwise += 1;
@@ -147,7 +125,10 @@ impl Counts {
             if text.len() <= SHOWN {
                 println!("  text:        \"{}\"", text.escape_ascii());
                 if self.otherwise <= 20 {
-                    println!("  cut down:    \"{}\"", cut_down(text).escape_ascii());
+                    println!(
+                        "  cut down:    \"{}\"",
+                        cut_down(text, differs_otherwise).escape_ascii()
+                    );
                 }
             }
             return;

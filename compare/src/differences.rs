@@ -13,6 +13,7 @@
 
 use crate::answer::Answer;
 use crate::reference::{self, number_of, past_u64, Mapping};
+use crate::text::{lines, Text};
 use std::fmt;
 
 const LINE: usize = 4096;
@@ -89,13 +90,13 @@ impl fmt::Display for Due {
     }
 }
 
-pub fn due(text: &[u8]) -> Due {
+pub fn due(text: Text) -> Due {
     let reference = reference::read(text);
     let reading = Reading::of(text);
-    let read = if reading.text == text {
+    let read = if reading.text() == text {
         reference.clone()
     } else {
-        reference::read(&reading.text)
+        reference::read(reading.text())
     };
     let Some(ours) = reading.answer(read) else {
         return Due {
@@ -104,7 +105,7 @@ pub fn due(text: &[u8]) -> Due {
             difference: None,
         };
     };
-    if agree(text, &reference, &ours) {
+    if agree(text.bytes, &reference, &ours) {
         return Due {
             reference,
             ours: Some(ours),
@@ -135,10 +136,7 @@ fn agree(text: &[u8], reference: &reference::Answer, ours: &Answer) -> bool {
             maps.len() as u64 == *mappings && reference::totals(maps) == totals.map(u128::from)
         }
         (reference::Answer::Refused { class, line }, Answer::Refused { number, line: ours }) => {
-            let last = text
-                .split_inclusive(|byte| *byte == b'\n')
-                .nth(line.wrapping_sub(1))
-                .unwrap_or(b"");
+            let last = lines(text).nth(line.wrapping_sub(1)).unwrap_or(b"");
             number_of(*class, last) == Some(*number) && *line as u64 == *ours
         }
         _ => false,
@@ -148,7 +146,9 @@ fn agree(text: &[u8], reference: &reference::Answer, ours: &Answer) -> bool {
 /// A text up to the first line that we refuse and procfs-core does not, for it to read.
 struct Reading {
     /// The text, with the paths replaced.
-    text: Vec<u8>,
+    bytes: Vec<u8>,
+    /// Whether it breaks off behind these.
+    broken: bool,
     /// Where its lines begin, and where the last ends.
     starts: Vec<usize>,
     /// The lines that open a mapping, from 1.
@@ -160,16 +160,17 @@ struct Reading {
 }
 
 impl Reading {
-    fn of(text: &[u8]) -> Reading {
+    fn of(text: Text) -> Reading {
         let mut all = Reading {
-            text: Vec::new(),
+            bytes: Vec::new(),
+            broken: false,
             starts: vec![0],
             opening: Vec::new(),
             stop: None,
             key_path: false,
         };
         let mut length = 0;
-        for (index, line) in text.split_inclusive(|byte| *byte == b'\n').enumerate() {
+        for (index, line) in lines(text.bytes).enumerate() {
             let number = index + 1;
             length += line.len();
             if line.len() > LINE || line.len() == LINE && !line.ends_with(b"\n") {
@@ -178,6 +179,11 @@ impl Reading {
             }
             if length > TEXT {
                 all.stop = Some((3, number));
+                break;
+            }
+            if text.broken && !line.ends_with(b"\n") {
+                // procfs-core does not get it whole.
+                all.push(line);
                 break;
             }
             let Ok(plain) = std::str::from_utf8(line) else {
@@ -208,22 +214,30 @@ impl Reading {
                 _ => all.push(line),
             }
         }
+        all.broken = text.broken && length == text.bytes.len() && all.stop.is_none();
         all
     }
 
+    fn text(&self) -> Text<'_> {
+        Text {
+            bytes: &self.bytes,
+            broken: self.broken,
+        }
+    }
+
     fn push(&mut self, line: &[u8]) {
-        self.text.extend_from_slice(line);
-        self.starts.push(self.text.len());
+        self.bytes.extend_from_slice(line);
+        self.starts.push(self.bytes.len());
     }
 
     /// Pushes the line with another path in place of its last bytes.
     fn push_without(&mut self, line: &[u8], path: usize) {
-        self.text.extend_from_slice(&line[..line.len() - path]);
-        self.text.extend_from_slice(PATH);
+        self.bytes.extend_from_slice(&line[..line.len() - path]);
+        self.bytes.extend_from_slice(PATH);
         if line.ends_with(b"\n") {
-            self.text.push(b'\n');
+            self.bytes.push(b'\n');
         }
-        self.starts.push(self.text.len());
+        self.starts.push(self.bytes.len());
     }
 
     /// What our library has to answer, given procfs-core's answer to this text.
@@ -232,8 +246,7 @@ impl Reading {
         // The line refused, by procfs-core or by a rule of ours; the mappings before it.
         let (refusal, mappings) = match (read, self.stop) {
             (reference::Answer::Refused { class, line }, _) => {
-                let number =
-                    number_of(class, &self.text[self.starts[line - 1]..self.starts[line]])?;
+                let number = number_of(class, self.line(line))?;
                 (Some((number, line)), self.before(line)?)
             }
             (reference::Answer::Accepted(_), Some((number, line))) if line <= lines => {
@@ -271,9 +284,15 @@ impl Reading {
         })
     }
 
+    /// A line, or nothing behind the last.
+    fn line(&self, line: usize) -> &[u8] {
+        let end = self.starts.get(line).copied();
+        &self.bytes[self.starts[line - 1]..end.unwrap_or(self.bytes.len())]
+    }
+
     /// The mappings of the lines before a line, which procfs-core accepts.
     fn before(&self, line: usize) -> Option<Vec<Mapping>> {
-        match reference::read(&self.text[..self.starts[line - 1]]) {
+        match reference::read(Text::whole(&self.bytes[..self.starts[line - 1]])) {
             reference::Answer::Accepted(mappings) => Some(mappings),
             reference::Answer::Refused { .. } => None,
         }

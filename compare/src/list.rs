@@ -1,36 +1,52 @@
-//! Writes texts of a reading (rows, status, limits, target, syscall or page) with the answers that our
-//! library has to give. One case a line: the text, in which `\\` is a backslash and `\x` with two base-16
-//! digits a byte, a tab, then "ok" with the fields, or "refused" with number, line and field.
+//! Writes texts of a reading (measure, rows, narrow, status, limits, target, syscall or page) with the
+//! answers that our library has to give. Narrow is rows with tables of few cells. One case a line: the
+//! text, in which `\\` is a backslash, `\x` with two base-16 digits a byte, `\+` all that stands before
+//! it once more, and `\!` at the end that the text breaks off there; a tab; then "ok" with the fields, or
+//! "refused" with number, line and field.
 //!
 //! - `list READING FILE [COUNT [SEED]]`: every readable text of the machine, a list of cases, and COUNT
-//!   generated and damaged texts, with all that is due to them.
+//!   texts made by dice, with all that is due to them.
 //! - `sample READING FILE [N]`: N cases in which procfs-core's own answer is due.
 //!
-//! No text comes near 268435456 bytes, so no case is refused 3.
+//! No text comes near 268435456 bytes, so no case is refused 3: the comparison of all readings has those.
 
+mod answer;
+// These have more than is used here.
+#[allow(dead_code)]
+mod cases;
+#[allow(dead_code)]
+mod counts;
 mod damage;
 mod dice;
+mod differences;
 mod escape;
-// These two have more than is used here.
 #[allow(dead_code)]
 mod inputs;
 mod limits;
 mod machine;
+mod measure;
+mod readings;
+#[allow(dead_code)]
 mod record;
 #[allow(dead_code)]
 mod reference;
 mod rows;
 mod status;
 mod support;
+#[allow(dead_code)]
+mod text;
 
+use cases::Cases;
+use counts::{line, listed, Counts, Told};
 use damage::damaged;
 use dice::Dice;
 use escape::escaped;
-use record::{Answer, Due, Reading, Refusal};
-use std::collections::{BTreeMap, BTreeSet, HashSet};
+use record::{Answer, Due, Reading};
+use std::collections::{BTreeMap, HashSet};
 use std::fs::File;
 use std::io::{BufWriter, Write};
 use std::process::ExitCode;
+use text::Text;
 
 fn main() -> ExitCode {
     let words: Vec<String> = std::env::args().skip(1).collect();
@@ -40,15 +56,7 @@ fn main() -> ExitCode {
             .get(place)
             .map_or(Some(default), |word| word.parse().ok())
     };
-    let reading = match words.get(1) {
-        Some(&"rows") => Some(rows::reading()),
-        Some(&"status") => Some(status::reading()),
-        Some(&"limits") => Some(limits::reading()),
-        Some(&"target") => Some(support::target()),
-        Some(&"syscall") => Some(support::syscall()),
-        Some(&"page") => Some(support::page()),
-        _ => None,
-    };
+    let reading = words.get(1).and_then(|name| readings::reading(name));
     // procfs-core's panics are answers here.
     std::panic::set_hook(Box::new(|_| {}));
     let result = match (words.as_slice(), reading) {
@@ -77,133 +85,38 @@ fn main() -> ExitCode {
 }
 
 fn usage() -> ExitCode {
-    eprintln!("usage: list rows|status|limits|target|syscall|page FILE [COUNT [SEED]]");
-    eprintln!("       sample rows|status|limits|target|syscall|page FILE [N]");
+    let names = readings::NAMES.join("|");
+    eprintln!("usage: list {names} FILE [COUNT [SEED]]");
+    eprintln!("       sample {names} FILE [N]");
     ExitCode::from(2)
 }
 
-#[derive(Clone, Copy)]
-enum Sort {
-    Real,
-    Listed,
-    Generated,
-    Damaged,
-}
-
-const SORTS: [&str; 4] = ["real", "listed", "generated", "damaged"];
-
 /// Writes all cases. Answers whether it could be told what is due to each.
 fn list(reading: &Reading, file: &str, count: usize, seed: usize) -> std::io::Result<bool> {
-    let mut all = Cases {
-        reading,
-        file: BufWriter::new(File::create(file)?),
-        counts: Counts::default(),
-    };
-    let real: Vec<Vec<u8>> = reading
-        .names
-        .iter()
-        .flat_map(|name| machine::texts(name))
-        .collect();
-    for text in &real {
-        all.write(Sort::Real, text)?;
-    }
-    for text in (reading.listed)() {
-        all.write(Sort::Listed, &text)?;
-    }
-    let filled: Vec<&Vec<u8>> = real.iter().filter(|text| !text.is_empty()).collect();
-    let mut seeds = Dice::new(seed as u64);
-    for index in 0..count {
-        // Each has its own dice, so that only copies of the machine's texts depend on these.
-        let mut dice = Dice::new(seeds.next());
-        if index % 2 == 0 {
-            all.write(Sort::Generated, &(reading.generated)(&mut dice))?;
-            continue;
-        }
-        let text = if index % 8 == 1 && !filled.is_empty() {
-            dice.pick(&filled).clone()
-        } else {
-            (reading.generated)(&mut dice)
-        };
-        all.write(Sort::Damaged, &damaged(&mut dice, &text))?;
-    }
-    all.file.flush()?;
-    all.counts.print(reading);
-    Ok(all.counts.untold == 0)
-}
-
-struct Cases<'a> {
-    reading: &'a Reading,
-    file: BufWriter<File>,
-    counts: Counts,
-}
-
-impl Cases<'_> {
-    fn write(&mut self, sort: Sort, text: &[u8]) -> std::io::Result<()> {
-        self.counts.inputs[sort as usize] += 1;
-        match (self.reading.due)(text) {
+    let mut file = BufWriter::new(File::create(file)?);
+    let mut counts = Counts::default();
+    let cases = Cases::of(reading);
+    for (sort, case) in cases.fixed().chain(cases.made(count, seed as u64)) {
+        counts.input(sort);
+        match (reading.due)(case.text()) {
             Ok(due) => {
-                self.counts.count(&due);
-                writeln!(self.file, "{}\t{}", escaped(text), due.ours)
+                counts.told(Told::of(&due));
+                writeln!(file, "{}\t{}", case.written(), (reading.written)(&due.ours))?;
             }
             Err(why) => {
-                self.counts.untold += 1;
-                println!("not told: {why}\n  text: {}", escaped(text));
-                Ok(())
+                counts.untold += 1;
+                println!("not told: {why}\n  text: {}", case.written());
             }
         }
     }
-}
-
-#[derive(Default)]
-struct Counts {
-    inputs: [usize; SORTS.len()],
-    accepted: usize,
-    refused: BTreeMap<usize, usize>,
-    fields: BTreeSet<usize>,
-    agreed: usize,
-    differing: BTreeMap<&'static str, usize>,
-    untold: usize,
-}
-
-impl Counts {
-    fn count(&mut self, due: &Due) {
-        match due.ours {
-            Answer::Accepted(_) => self.accepted += 1,
-            Answer::Refused(Refusal { number, field, .. }) => {
-                *self.refused.entry(number).or_default() += 1;
-                self.fields.insert(field);
-            }
-        }
-        match due.difference {
-            None => self.agreed += 1,
-            Some(name) => *self.differing.entry(name).or_default() += 1,
-        }
-    }
-
-    fn print(&self, reading: &Reading) {
-        let line = |name: &str, count: usize| println!("{name:<34}{count:>9}");
-        line("inputs", self.inputs.iter().sum());
-        for (sort, count) in SORTS.iter().zip(self.inputs) {
-            line(&format!("  {sort}"), count);
-        }
-        line("due", self.agreed + self.differing.values().sum::<usize>());
-        line("  accepted", self.accepted);
-        for (number, count) in &self.refused {
-            line(&format!("  refused {number}"), *count);
-        }
-        line("as procfs-core answers", self.agreed);
-        line("differing as intended", self.differing.values().sum());
-        for name in &reading.differences {
-            let count = self.differing.get(name).copied().unwrap_or(0);
-            line(&format!("  {name}"), count);
-        }
-        line("not told", self.untold);
-        let never: Vec<String> = (0..=reading.fields)
-            .filter(|field| !self.fields.contains(field))
-            .map(|field| field.to_string())
-            .collect();
-        println!("fields never refused: {}", never.join(" "));
-    }
+    file.flush()?;
+    counts.print_inputs();
+    counts.print_answers("due");
+    counts.print_differences(reading);
+    line("not told", counts.untold);
+    let never = listed(&counts.fields(reading, false));
+    println!("fields never refused: {never}");
+    Ok(counts.untold == 0)
 }
 
 /// The most bytes of a text in a sample.
@@ -250,9 +163,9 @@ fn sample(reading: &Reading, file: &str, count: usize) -> std::io::Result<bool> 
         if let Ok(Due {
             ours,
             difference: None,
-        }) = (reading.due)(&text)
+        }) = (reading.due)(Text::whole(&text))
         {
-            let case = format!("{}\t{ours}\n", escaped(&text));
+            let case = format!("{}\t{}\n", escaped(&text), (reading.written)(&ours));
             kinds.entry(kind(&ours)).or_default().push(case);
         }
         seen.insert(text);

@@ -1,8 +1,8 @@
 //! The answer of procfs-core to a text.
 
+use crate::text::Text;
 use procfs_core::process::MemoryMaps;
-use procfs_core::{FromBufRead, ProcError};
-use std::panic::{catch_unwind, AssertUnwindSafe};
+use procfs_core::ProcError;
 
 /// Rss, Pss and SwapPss of one mapping, 0 where absent.
 pub type Mapping = [u64; 3];
@@ -12,6 +12,8 @@ pub const KEYS: [&str; 3] = ["Rss", "Pss", "SwapPss"];
 /// Why procfs-core refused a text, as far as it tells.
 #[derive(Clone, Copy, Debug, PartialEq, Eq)]
 pub enum Class {
+    /// `Incomplete` where the reading broke off.
+    Broken,
     /// `Incomplete`: a line that is not UTF-8, or an attribute before any mapping.
     Incomplete,
     /// `Other`: the second word of an attribute is no number.
@@ -31,6 +33,7 @@ pub enum Class {
 impl Class {
     pub fn name(self) -> &'static str {
         match self {
+            Class::Broken => "broken",
             Class::Incomplete => "incomplete",
             Class::Other => "other",
             Class::Short => "short",
@@ -64,7 +67,7 @@ pub fn totals(mappings: &[Mapping]) -> [u128; 3] {
 }
 
 /// What procfs-core answers to a text.
-pub fn read(text: &[u8]) -> Answer {
+pub fn read(text: Text) -> Answer {
     match maps(text) {
         Ok(maps) => Answer::Accepted(
             maps.iter()
@@ -76,22 +79,22 @@ pub fn read(text: &[u8]) -> Answer {
 }
 
 /// The mappings that procfs-core reads in a text, or why it refuses the text and the last line that it
-/// read, from 1.
-pub fn maps(text: &[u8]) -> Result<MemoryMaps, (Class, usize)> {
-    let mut rest = text;
-    let result = catch_unwind(AssertUnwindSafe(|| MemoryMaps::from_buf_read(&mut rest)));
-    let class = match result {
-        Ok(Ok(maps)) => return Ok(maps),
-        Ok(Err(error)) => class(&error),
-        Err(_) => Class::Panic,
+/// asked for, from 1.
+pub fn maps(text: Text) -> Result<MemoryMaps, (Class, usize)> {
+    let outcome = text.read::<MemoryMaps>();
+    let class = match outcome.result {
+        Some(Ok(maps)) => return Ok(maps),
+        Some(Err(ProcError::Incomplete(None))) if outcome.broke_off => Class::Broken,
+        Some(Err(error)) => class(&error),
+        None => Class::Panic,
     };
-    let taken = &text[..text.len() - rest.len()];
-    Err((class, taken.split_inclusive(|byte| *byte == b'\n').count()))
+    Err((class, outcome.line))
 }
 
 /// Our number for procfs-core's refusal of a line.
 pub fn number_of(class: Class, line: &[u8]) -> Option<u32> {
     match class {
+        Class::Broken => Some(1),
         Class::Incomplete if std::str::from_utf8(line).is_err() => Some(1),
         Class::Incomplete => Some(4),
         Class::Short => Some(5),

@@ -15,6 +15,7 @@ mod differences;
 mod escape;
 mod inputs;
 mod reference;
+mod text;
 
 use answer::Answer;
 use damage::damaged;
@@ -24,6 +25,7 @@ use escape::escaped;
 use reference::totals;
 use std::collections::HashSet;
 use std::process::ExitCode;
+use text::Text;
 
 /// The most bytes of a text.
 const LONGEST: usize = 2000;
@@ -93,7 +95,7 @@ impl Sample {
         if text.len() > LONGEST || self.texts.contains(&text) {
             return;
         }
-        let due = due(&text);
+        let due = due(Text::whole(&text));
         let number = match (due.ours, due.difference) {
             (Some(Answer::Accepted { .. }), None) => 0,
             (Some(Answer::Refused { number, .. }), None) => number,

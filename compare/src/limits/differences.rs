@@ -11,6 +11,7 @@ use crate::limits::reference::fields;
 use crate::record::lines::Head;
 use crate::record::reference::read;
 use crate::record::{Answer, Due};
+use crate::text::Text;
 use procfs_core::process::Limits;
 
 #[derive(Clone, Copy, Debug, PartialEq, Eq)]
@@ -30,10 +31,15 @@ impl Difference {
     }
 }
 
-pub fn due(text: &[u8]) -> Result<Due, String> {
+pub fn due(text: Text) -> Result<Due, String> {
     let reference = answer(text)?;
     let head = Head::of(text);
-    let ours = match (answer(head.text)?, head.stop) {
+    let read = if head.text == text {
+        reference.clone()
+    } else {
+        answer(head.text)?
+    };
+    let ours = match (read, head.stop) {
         (Answer::Refused(refusal), _) if refusal.field == 0 => Answer::Refused(refusal),
         (_, Some(stop)) => Answer::Refused(stop),
         (answer, None) => answer,
@@ -50,7 +56,7 @@ pub fn due(text: &[u8]) -> Result<Due, String> {
     })
 }
 
-fn answer(text: &[u8]) -> Result<Answer, String> {
+fn answer(text: Text) -> Result<Answer, String> {
     Ok(match read::<Limits>(text)? {
         Ok(limits) => Answer::Accepted(fields(&limits)),
         Err(refusal) => Answer::Refused(refusal),

@@ -138,6 +138,11 @@ fn text(lines: &[String]) -> String {
     lines.iter().map(|line| format!("{line}\n")).collect()
 }
 
+/// The heading and the needed lines.
+pub fn plain() -> String {
+    text(&lines(line))
+}
+
 /// One text for each form of each part.
 pub fn listed() -> Vec<Vec<u8>> {
     let mut texts = Vec::new();

@@ -1,27 +1,23 @@
 //! The rules on lines that come before those of a reading.
 
 use crate::record::Refusal;
+use crate::text::{lines, Text};
 
 const LINE: usize = 4096;
 const TEXT: usize = 268_435_456;
 
-/// The lines of a text, each with its byte 10.
-pub fn lines(text: &[u8]) -> impl Iterator<Item = &[u8]> {
-    text.split_inclusive(|byte| *byte == b'\n')
-}
-
 /// A text up to the line where its reading ends at the latest.
 pub struct Head<'a> {
     /// Without that line where it is refused 2 or 3; with it where it is not UTF-8.
-    pub text: &'a [u8],
+    pub text: Text<'a>,
     /// The refusal 2 or 3 of the next line.
     pub stop: Option<Refusal>,
 }
 
 impl Head<'_> {
-    pub fn of(text: &[u8]) -> Head<'_> {
+    pub fn of(text: Text<'_>) -> Head<'_> {
         let mut size = 0;
-        for (taken, line) in lines(text).enumerate() {
+        for (taken, line) in lines(text.bytes).enumerate() {
             let end = size + line.len();
             let stop = if line.len() > LINE || line.len() == LINE && !line.ends_with(b"\n") {
                 2
@@ -29,7 +25,7 @@ impl Head<'_> {
                 3
             } else if std::str::from_utf8(line).is_err() {
                 return Head {
-                    text: &text[..end],
+                    text: Text::whole(&text.bytes[..end]),
                     stop: None,
                 };
             } else {
@@ -37,7 +33,7 @@ impl Head<'_> {
                 continue;
             };
             return Head {
-                text: &text[..size],
+                text: Text::whole(&text.bytes[..size]),
                 stop: Some(Refusal {
                     number: stop,
                     line: taken + 1,

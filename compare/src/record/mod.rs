@@ -1,10 +1,13 @@
-//! Readings that answer a record of numbered fields: status and limits.
+//! Readings, and what is due to their texts; what status and limits, which answer a record of numbered
+//! fields, have in common.
 
 pub mod lines;
 pub mod reference;
 pub mod source;
 
+use crate::damage::line_of;
 use crate::dice::Dice;
+use crate::text::Text;
 use std::fmt;
 
 /// A reading: its texts, and what they have coming to them.
@@ -13,14 +16,34 @@ pub struct Reading {
     pub names: &'static [&'static str],
     /// The number of fields.
     pub fields: usize,
+    /// Those at which no refusal can come, by the rules.
+    pub safe_fields: &'static [usize],
     /// A list of single cases.
     pub listed: fn() -> Vec<Vec<u8>>,
     pub generated: fn(&mut Dice) -> Vec<u8>,
     /// What is due to a text, or why that can't be told.
-    pub due: fn(&[u8]) -> Result<Due, String>,
+    pub due: fn(Text) -> Result<Due, String>,
     /// The names of the intended differences.
     pub differences: Vec<&'static str>,
+    /// The numbers of its refusals, by the rules.
+    pub refusals: &'static [usize],
+    /// What the longest text that is read is made of. None: texts have no lines, no cap and no ending.
+    pub block: Option<Vec<u8>>,
+    /// An answer as lists have it.
+    pub written: fn(&Answer) -> String,
 }
+
+/// A sixteenth of a mebibyte that begins so and has long lines behind it, each of which begins so.
+pub fn block(start: &str, line: &str) -> Vec<u8> {
+    let mut block = start.as_bytes().to_vec();
+    while block.len() < BLOCK {
+        let length = 4096.min(BLOCK - block.len());
+        block.extend_from_slice(&line_of(length - 1, line, "\n"));
+    }
+    block
+}
+
+const BLOCK: usize = 1 << 16;
 
 /// What a text has coming to it.
 pub struct Due {

@@ -1,10 +1,9 @@
 //! The answer of procfs-core to a text, with the number, line and field of a refusal.
 
-use crate::record::lines::lines;
 use crate::record::source::{Place, Source};
 use crate::record::Refusal;
-use procfs_core::{FromBufRead, ProcError, ProcResult};
-use std::panic::{catch_unwind, AssertUnwindSafe};
+use crate::text::{lines, Outcome, Text};
+use procfs_core::{FromBufRead, ProcError};
 
 /// A record that procfs-core reads.
 pub trait Record: FromBufRead {
@@ -21,17 +20,21 @@ pub struct GoodLine {
 }
 
 /// The record, or the refusal in our terms. An error says what has no counterpart there.
-pub fn read<T: Record>(text: &[u8]) -> Result<Result<T, Refusal>, String> {
-    let (result, count) = run::<T>(text);
+pub fn read<T: Record>(text: Text) -> Result<Result<T, Refusal>, String> {
+    let Outcome {
+        result,
+        line,
+        broke_off,
+    } = text.read::<T>();
     let error = match result {
         Some(Ok(record)) => return Ok(Ok(record)),
         Some(Err(error)) => error,
-        None => return Err(format!("a panic at line {count}")),
+        None => return Err(format!("a panic at line {line}")),
     };
     let taking = |number| {
         Ok(Err(Refusal {
             number,
-            line: count,
+            line,
             field: 0,
         }))
     };
@@ -39,17 +42,17 @@ pub fn read<T: Record>(text: &[u8]) -> Result<Result<T, Refusal>, String> {
         ProcError::Io(error, None) if error.kind() == std::io::ErrorKind::InvalidData => {
             return taking(1);
         }
+        ProcError::Io(_, None) if broke_off => return taking(1),
         ProcError::InternalError(inner) => {
             (fault(&inner.msg), T::source().place(inner.line as usize))
         }
         _ => (None, Place::Helper),
     };
-    // A line that ends a text because it is not UTF-8 was not taken.
-    let mut taken: Vec<&[u8]> = lines(text).take(count).collect();
-    if taken
-        .last()
-        .is_some_and(|line| std::str::from_utf8(line).is_err())
-    {
+    // A line that ends a text because it is not UTF-8, or did not come whole, was not taken.
+    let mut taken: Vec<&[u8]> = lines(text.bytes).take(line).collect();
+    if taken.last().is_some_and(|last| {
+        std::str::from_utf8(last).is_err() || broke_off && !last.ends_with(b"\n")
+    }) {
         taken.pop();
     }
     let number = match (place, fault) {
@@ -74,12 +77,24 @@ fn field<T: Record>(place: Place, text: &[u8]) -> Result<usize, String> {
     let good = T::good_lines();
     let accepted = |kept: usize| {
         let later = with_good::<T>(text, |field| kept < good.len() && field >= good[kept].field);
-        matches!(run::<T>(&later).0, Some(Ok(_)))
+        matches!(Text::whole(&later).read::<T>().result, Some(Ok(_)))
     };
-    let (mut least, mut most) = (0, good.len());
-    if !accepted(least) || accepted(most) {
-        return Err("a refusal that no field is the cause of".to_string());
+    let name = match place {
+        Place::Field(field) => good.partition_point(|good| good.field <= field) - 1,
+        _ => last_accepted(good.len(), accepted),
+    };
+    if !accepted(name) || accepted(name + 1) {
+        return Err("a refusal that its field is not the cause of".to_string());
     }
+    match place {
+        Place::Field(field) => Ok(field),
+        _ => Ok(good[name].field),
+    }
+}
+
+/// The last number below `most` that is accepted, if 0 is.
+fn last_accepted(mut most: usize, accepted: impl Fn(usize) -> bool) -> usize {
+    let mut least = 0;
     while most - least > 1 {
         let kept = (least + most) / 2;
         if accepted(kept) {
@@ -88,18 +103,7 @@ fn field<T: Record>(place: Place, text: &[u8]) -> Result<usize, String> {
             most = kept;
         }
     }
-    let first = good[least].field;
-    match place {
-        Place::Field(field) => {
-            let next = good.get(most).map_or(usize::MAX, |next| next.field);
-            if (first..next).contains(&field) {
-                Ok(field)
-            } else {
-                Err(format!("field {field} by the source, {first} by reading"))
-            }
-        }
-        _ => Ok(first),
-    }
+    least
 }
 
 /// The text with good lines behind it, of the names whose first fields are chosen.
@@ -112,14 +116,6 @@ pub fn with_good<T: Record>(text: &[u8], chosen: impl Fn(usize) -> bool) -> Vec<
         text.extend_from_slice(good.line.as_bytes());
     }
     text
-}
-
-/// What procfs-core answers, None where it panics, and the number of lines that it took.
-fn run<T: FromBufRead>(text: &[u8]) -> (Option<ProcResult<T>>, usize) {
-    let mut rest = text;
-    let result = catch_unwind(AssertUnwindSafe(|| T::from_buf_read(&mut rest)));
-    let taken = &text[..text.len() - rest.len()];
-    (result.ok(), lines(taken).count())
 }
 
 /// What an `InternalError` is about.

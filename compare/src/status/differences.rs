@@ -9,11 +9,12 @@
 //!
 //! All other rules are procfs-core's own: it reads the text with the values of such lines replaced.
 
-use crate::record::lines::{lines, Head};
+use crate::record::lines::Head;
 use crate::record::reference::{read, with_good};
 use crate::record::{Answer, Due, Refusal};
 use crate::status::names::{find, Form, NAMES};
 use crate::status::reference::fields;
+use crate::text::{lines, Text};
 use procfs_core::process::Status;
 
 #[derive(Clone, Copy, Debug, PartialEq, Eq)]
@@ -54,14 +55,20 @@ impl Difference {
     }
 }
 
-pub fn due(text: &[u8]) -> Result<Due, String> {
-    let reference = match read::<Status>(text)? {
-        Ok(status) => Answer::Accepted(fields(&status)),
-        Err(refusal) => Answer::Refused(refusal),
+pub fn due(text: Text) -> Result<Due, String> {
+    let plain = read::<Status>(text)?;
+    let reference = match &plain {
+        Ok(status) => Answer::Accepted(fields(status)),
+        Err(refusal) => Answer::Refused(*refusal),
     };
     let head = Head::of(text);
     let adjusted = Adjusted::of(head.text);
-    let ours = match (read::<Status>(&adjusted.text)?, head.stop) {
+    let result = if adjusted.text() == text {
+        plain
+    } else {
+        read(adjusted.text())?
+    };
+    let ours = match (result, head.stop) {
         (Err(refusal), _) if refusal.field == 0 => Answer::Refused(refusal),
         (_, Some(stop)) => Answer::Refused(stop),
         (result, None) => adjusted.closed(result)?,
@@ -84,7 +91,9 @@ pub fn due(text: &[u8]) -> Result<Due, String> {
 /// A text that procfs-core reads as our library reads the one that it was made from, but for the room
 /// of lists.
 struct Adjusted {
-    text: Vec<u8>,
+    bytes: Vec<u8>,
+    /// Whether it breaks off behind these.
+    broken: bool,
     /// What stands for colons behind the first one of a Name.
     colon: char,
     /// Whether such a colon was replaced.
@@ -94,25 +103,36 @@ struct Adjusted {
 }
 
 impl Adjusted {
-    fn of(text: &[u8]) -> Adjusted {
-        let whole = String::from_utf8_lossy(text);
+    fn of(text: Text) -> Adjusted {
+        let whole = String::from_utf8_lossy(text.bytes);
         let colon = ('\u{e000}'..).find(|each| !whole.contains(*each));
         let mut all = Adjusted {
-            text: Vec::new(),
+            bytes: Vec::new(),
+            broken: text.broken,
             colon: colon.expect("a text that lacks a character"),
             name_colon: false,
             inner_kilo: false,
         };
-        for line in lines(text) {
+        for line in lines(text.bytes) {
+            // One that does not come whole stays as it is.
+            let lost = text.broken && !line.ends_with(b"\n");
             let replaced = std::str::from_utf8(line)
                 .ok()
+                .filter(|_| !lost)
                 .and_then(|line| all.replaced(line));
             match replaced {
-                Some(line) => all.text.extend_from_slice(line.as_bytes()),
-                None => all.text.extend_from_slice(line),
+                Some(line) => all.bytes.extend_from_slice(line.as_bytes()),
+                None => all.bytes.extend_from_slice(line),
             }
         }
         all
+    }
+
+    fn text(&self) -> Text<'_> {
+        Text {
+            bytes: &self.bytes,
+            broken: self.broken,
+        }
     }
 
     /// What stands for a line. None: the line itself.
@@ -120,7 +140,10 @@ impl Adjusted {
         let (key, rest) = line.split_once(':')?;
         let name = find(key)?;
         if name.field == 1 {
-            self.name_colon |= rest.contains(':');
+            if !rest.contains(':') {
+                return None;
+            }
+            self.name_colon = true;
             return Some(format!(
                 "{key}:{}",
                 rest.replace(':', &self.colon.to_string())
@@ -133,18 +156,23 @@ impl Adjusted {
                     Some(start) => (start, " kB"),
                     None => (value, ""),
                 };
+                if !start.contains(" kB") {
+                    return None;
+                }
                 // It is no number with one, and with a question mark neither.
-                self.inner_kilo |= start.contains(" kB");
+                self.inner_kilo = true;
                 format!("{}{end}", start.replace(" kB", "?"))
             }
             // No item behind the first one that there is no room for is read.
             (Form::Groups | Form::Pids, Some(room)) => {
-                let items: Vec<&str> = value.split_whitespace().take(room + 1).collect();
-                items.join(" ")
+                let items: Vec<&str> = value.split_whitespace().collect();
+                items.get(..=room)?.join(" ")
             }
             (_, Some(room)) => {
-                let mut items: Vec<&str> = value.split(',').take(room + 1).collect();
-                // The last one kept may have been an inner one, with white that is not trimmed off.
+                let mut items: Vec<&str> = value.split(',').collect();
+                let items = items.get_mut(..=room)?;
+                // The last one kept is an inner one where there are more, with white that is not
+                // trimmed off.
                 match items.last_mut() {
                     Some(last) if *last != last.trim_end() => *last = "?",
                     _ => {}
@@ -163,8 +191,8 @@ impl Adjusted {
             // The lists before the field refused are seen with good lines for it and the later ones.
             Err(refusal) => {
                 let name = NAMES.partition_point(|name| name.field <= refusal.field) - 1;
-                let text = with_good::<Status>(&self.text, |field| field >= NAMES[name].field);
-                match read(&text)? {
+                let text = with_good::<Status>(&self.bytes, |field| field >= NAMES[name].field);
+                match read(Text::whole(&text))? {
                     Ok(status) => (status, Some(refusal)),
                     Err(later) => return Err(format!("{refusal:?}, then {later:?}")),
                 }
@@ -179,7 +207,7 @@ impl Adjusted {
             });
         let full = full.map(|name| Refusal {
             number: 12,
-            line: lines(&self.text).count(),
+            line: lines(&self.bytes).count(),
             field: name.field,
         });
         Ok(match full.or(refusal) {

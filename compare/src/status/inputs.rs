@@ -117,6 +117,11 @@ fn text(lines: &[String]) -> String {
     lines.iter().map(|line| format!("{line}\n")).collect()
 }
 
+/// The needed lines.
+pub fn least() -> String {
+    text(&lines(SPARE))
+}
+
 /// One text for each form of each part.
 pub fn listed() -> Vec<Vec<u8>> {
     let mut texts = Vec::new();

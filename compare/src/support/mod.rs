@@ -5,6 +5,7 @@ mod syscall;
 mod target;
 
 use crate::record::{Answer, Due, Reading, Refusal};
+use crate::text::Text;
 
 pub fn target() -> Reading {
     reading(
@@ -13,6 +14,7 @@ pub fn target() -> Reading {
         target::generated,
         target::due,
         &target::DIFFERENCES,
+        &[1, 6, 20],
     )
 }
 
@@ -23,28 +25,34 @@ pub fn syscall() -> Reading {
         syscall::generated,
         syscall::due,
         &syscall::DIFFERENCES,
+        &[1, 2, 5, 6],
     )
 }
 
 pub fn page() -> Reading {
     // The file of the machine is too long to be read whole, and no text.
-    reading(&[], page::listed, page::generated, page::due, &[])
+    reading(&[], page::listed, page::generated, page::due, &[], &[])
 }
 
 fn reading(
     names: &'static [&'static str],
     listed: fn() -> Vec<Vec<u8>>,
     generated: fn(&mut crate::dice::Dice) -> Vec<u8>,
-    due: fn(&[u8]) -> Result<Due, String>,
+    due: fn(Text) -> Result<Due, String>,
     differences: &[&'static str],
+    refusals: &'static [usize],
 ) -> Reading {
     Reading {
         names,
         fields: 0,
+        safe_fields: &[],
         listed,
         generated,
         due,
         differences: differences.to_vec(),
+        refusals,
+        block: None,
+        written: Answer::to_string,
     }
 }
 

@@ -3,6 +3,7 @@
 
 use crate::dice::Dice;
 use crate::record::{Answer, Due};
+use crate::text::Text;
 use procfs_core::process::{MemoryPageFlags as Memory, PageInfo, SwapPageFlags as Swap};
 
 pub fn listed() -> Vec<Vec<u8>> {
@@ -29,9 +30,9 @@ pub fn generated(dice: &mut Dice) -> Vec<u8> {
     word.to_le_bytes().to_vec()
 }
 
-pub fn due(text: &[u8]) -> Result<Due, String> {
+pub fn due(text: Text) -> Result<Due, String> {
     let mut word = [0; 8];
-    for (place, byte) in word.iter_mut().zip(text) {
+    for (place, byte) in word.iter_mut().zip(text.bytes) {
         *place = *byte;
     }
     let word = u64::from_le_bytes(word);

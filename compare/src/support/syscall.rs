@@ -7,6 +7,7 @@ use super::{due as due_of, every, refused};
 use crate::damage::{NOT_UTF8, UTF8};
 use crate::dice::Dice;
 use crate::record::{Answer, Due};
+use crate::text::Text;
 use procfs_core::process::Syscall;
 use procfs_core::{FromRead, ProcError};
 
@@ -178,7 +179,8 @@ pub fn generated(dice: &mut Dice) -> Vec<u8> {
     format!("{front}{text}{}", white(dice)).into_bytes()
 }
 
-pub fn due(text: &[u8]) -> Result<Due, String> {
+pub fn due(text: Text) -> Result<Due, String> {
+    let text = text.bytes;
     let reference = reference(text)?;
     if text.len() > 4096 {
         return Ok(due_of(refused(2), Some(reference), LONG));

@@ -8,6 +8,7 @@ use super::{due as due_of, every, name, refused};
 use crate::damage::{NOT_UTF8, UTF8};
 use crate::dice::Dice;
 use crate::record::{Answer, Due};
+use crate::text::Text;
 use procfs_core::process::FDTarget;
 use procfs_core::ProcError;
 use std::str::FromStr;
@@ -158,8 +159,8 @@ fn parts(text: &str) -> Option<(&str, &str)> {
     text.split_once(':')
 }
 
-pub fn due(text: &[u8]) -> Result<Due, String> {
-    let Ok(text) = std::str::from_utf8(text) else {
+pub fn due(text: Text) -> Result<Due, String> {
+    let Ok(text) = std::str::from_utf8(text.bytes) else {
         return Ok(due_of(refused(1), None, NOT_TEXT));
     };
     let reference = reference(text)?;

@@ -1,9 +1,9 @@
 // The answer to a limits text: `ok` and the 16 limits in order, each as `SOFT:HARD`, or `refused`.
+use crate::text::Text;
 use crate::{Answer, record_answer};
 use kinds::limits_text::read_limits;
 use limits::limit::LimitValue;
 use limits::record::Limits;
-use sources::held::Held;
 use std::alloc::{AllocError, Global};
 use std::fmt;
 use std::fmt::{Display, Formatter};
@@ -57,8 +57,10 @@ impl Display for Fields<'_> {
     }
 }
 
-pub fn answer(heap: Global, text: &[u8]) -> Result<Answer, AllocError> {
+pub fn answer(heap: Global, text: &Text) -> Result<Answer, AllocError> {
     let mut record = Limits::blank();
-    let read = read_limits(&mut Held::new(text), &mut record);
+    let read = text
+        .source()
+        .and_then(|mut source| read_limits(&mut source, &mut record));
     record_answer(heap, read, Fields(&record))
 }

@@ -1,9 +1,9 @@
 // Replays lists of texts with the answers expected, and prints what differs.
 //
-// The words are names of lists; `measure`, `rows`, `status`, `limits`, `target`, `syscall` or `page` before them says how the lists that follow are read, and without it they are read as measures.
+// The words are names of lists; `measure`, `rows`, `narrow`, `status`, `limits`, `target`, `syscall` or `page` before them says how the lists that follow are read, and without it they are read as measures. `narrow` is rows with small tables.
 // A line of a list is a text, a tab, and what is expected. Of a measure: `ok MAPPINGS RSS PSS SWAPPSS`, `refused NUMBER LINE`, or the class of error that procfs-core answers.
 // Of any other: `ok` and the fields, in order, or `refused NUMBER LINE FIELD`.
-// In a text `\\` is a backslash, and `\x` with two digits of base 16 is a byte.
+// In a text `\\` is a backslash, `\x` with two digits of base 16 is a byte, `\+` is all that stands before it once more, and `\!` at the end says that the text breaks off there.
 #![tactic(auto)]
 
 mod limits_text;
@@ -16,13 +16,12 @@ mod text;
 use anyhow::Context;
 use kinds::measure::{Figures, measure};
 use sources::fault::Refusal;
-use sources::held::Held;
 use sources::reason::Reason;
 use std::alloc::{AllocError, Global};
 use std::fmt::Display;
 use std::rt::Files;
 use std::{env, fs};
-use text::unescaped;
+use text::{Text, unescaped};
 
 // What a text is answered: a line as lists have it, and why it was refused, where a class of error may be expected instead.
 #[derive(Drop)]
@@ -49,8 +48,9 @@ fn class(reason: Reason) -> Option<&'static str> {
 }
 
 // The answer to a text that is read as a measure.
-fn measure_answer(heap: Global, text: &[u8]) -> Result<Answer, AllocError> {
-    let (line, reason) = match measure(&mut Held::new(text)) {
+fn measure_answer(heap: Global, text: &Text) -> Result<Answer, AllocError> {
+    let figures = text.source().and_then(|mut source| measure(&mut source));
+    let (line, reason) = match figures {
         Ok(closed) => {
             let mappings = closed.mappings();
             let Figures { rss, pss, swap_pss } = closed.totals();
@@ -83,7 +83,7 @@ fn record_answer<D: Display + Drop>(
 }
 
 // How the texts of a list are read.
-type Reading = fn(Global, &[u8]) -> Result<Answer, AllocError>;
+type Reading = fn(Global, &Text) -> Result<Answer, AllocError>;
 
 // What a line of a list is answered, where that is not what it expects.
 fn difference(heap: Global, read: Reading, line: &str) -> anyhow::Result<Option<Answer>>
@@ -91,7 +91,7 @@ fn difference(heap: Global, read: Reading, line: &str) -> anyhow::Result<Option<
 {
     let (escaped, expected) = line.split_once('\t').context("a line without a tab")?;
     let text = unescaped(heap, escaped.as_bytes())?;
-    let answer = read(heap, text.as_slice())?;
+    let answer = read(heap, &text)?;
     if answer.meets(expected) {
         return Ok(None);
     }
@@ -123,6 +123,7 @@ fn main(rt: HostRuntime) -> anyhow::Result<()> {
         match word.as_str() {
             "measure" => read = measure_answer,
             "rows" => read = rows_text::answer,
+            "narrow" => read = rows_text::narrow_answer,
             "status" => read = status_text::answer,
             "limits" => read = limits_text::answer,
             "target" => read = support_text::target_answer,

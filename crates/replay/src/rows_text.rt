@@ -1,11 +1,11 @@
 // The answer to an smaps text that is read as rows: `ok`, how many mappings there are, and each with its fields, the case of its path as number, its number, where its name stands, and its name, its flags, and its attributes in order; or `refused`.
 use crate::quoted::Quoted;
+use crate::text::Text;
 use crate::{Answer, record_answer};
 use rows::entry::Entry;
 use rows::path::Place;
 use rows::read::{Counts, read_rows};
 use rows::row::Row;
-use sources::held::Held;
 use std::alloc::{AllocError, Global};
 use std::fmt;
 use std::fmt::{Display, Formatter};
@@ -63,21 +63,32 @@ impl Display for Rows<'_> {
     }
 }
 
-pub fn answer(heap: Global, text: &[u8]) -> Result<Answer, AllocError> {
-    // A line is at most one row or one entry.
-    let breaks = text.iter().filter(|b| **b == b'\n').count();
-    let lines = breaks.saturating_add(1);
-    let mut rows = vec![in heap; Row::blank(); lines]?;
-    let mut entries = vec![in heap; Entry::blank(); lines]?;
-    let read = read_rows(&mut Held::new(text), &mut rows, &mut entries);
+// The answer where there are tables of so many cells.
+fn answer_in(heap: Global, text: &Text, rows: usize, entries: usize) -> Result<Answer, AllocError> {
+    let mut rows = vec![in heap; Row::blank(); rows]?;
+    let mut entries = vec![in heap; Entry::blank(); entries]?;
+    let read = text.source().and_then(|mut source| read_rows(&mut source, &mut rows, &mut entries));
     let counts = read.unwrap_or(Counts {
         rows: 0,
         entries: 0,
     });
     let fields = Rows {
-        text,
+        text: text.bytes.as_slice(),
         rows: part(rows.as_slice(), 0, counts.rows),
         entries: part(entries.as_slice(), 0, counts.entries),
     };
     record_answer(heap, read.map(|_| ()), fields)
+}
+
+// With tables that no text of so many lines fills.
+pub fn answer(heap: Global, text: &Text) -> Result<Answer, AllocError> {
+    // A line is at most one row or one entry.
+    let breaks = text.bytes.iter().filter(|b| **b == b'\n').count();
+    let lines = breaks.saturating_add(1);
+    answer_in(heap, text, lines, lines)
+}
+
+// With tables of few cells, which many texts fill.
+pub fn narrow_answer(heap: Global, text: &Text) -> Result<Answer, AllocError> {
+    answer_in(heap, text, 3, 12)
 }

@@ -1,9 +1,9 @@
 // The answer to a status text: `ok` and the 61 fields in order, or `refused`.
 use crate::quoted::Quoted;
+use crate::text::Text;
 use crate::{Answer, record_answer};
 use fields::counted::Counted;
 use kinds::status_text::read_status;
-use sources::held::Held;
 use status::record::Status;
 use std::alloc::{AllocError, Global};
 use std::fmt;
@@ -132,8 +132,10 @@ fn put_others<W: fmt::Write>(f: &mut Formatter<W>, s: &Status) -> fmt::Result {
     write!(f, " {} {}", OrDash(s.core_dumping), OrDash(s.thp_enabled))
 }
 
-pub fn answer(heap: Global, text: &[u8]) -> Result<Answer, AllocError> {
+pub fn answer(heap: Global, text: &Text) -> Result<Answer, AllocError> {
     let mut record = Status::blank();
-    let read = read_status(&mut Held::new(text), &mut record);
+    let read = text
+        .source()
+        .and_then(|mut source| read_status(&mut source, &mut record));
     record_answer(heap, read, Fields(&record))
 }

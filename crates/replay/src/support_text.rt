@@ -1,5 +1,6 @@
 // The answers to single values. Of a target, the case with its parts, each text as an equals sign and its bytes in base 16; of a system call, `running` or its nine numbers.
 // Of a page word, `memory` with the word and the frame number, or `swap` with the word, the type and the offset, and then the six bits that have a name.
+use crate::text::Text;
 use crate::{Answer, record_answer};
 use std::alloc::{AllocError, Global};
 use std::fmt;
@@ -39,8 +40,8 @@ impl Display for Target<'_> {
     }
 }
 
-pub fn target_answer(heap: Global, text: &[u8]) -> Result<Answer, AllocError> {
-    match FDTarget::from_bytes(text) {
+pub fn target_answer(heap: Global, text: &Text) -> Result<Answer, AllocError> {
+    match FDTarget::from_bytes(text.bytes.as_slice()) {
         Ok(target) => record_answer(heap, Ok(()), Target(target)),
         Err(refusal) => record_answer(heap, Err(refusal), ""),
     }
@@ -69,8 +70,8 @@ impl Display for Call {
     }
 }
 
-pub fn syscall_answer(heap: Global, text: &[u8]) -> Result<Answer, AllocError> {
-    match Syscall::from_bytes(text) {
+pub fn syscall_answer(heap: Global, text: &Text) -> Result<Answer, AllocError> {
+    match Syscall::from_bytes(text.bytes.as_slice()) {
         Ok(call) => record_answer(heap, Ok(()), Call(call)),
         Err(refusal) => record_answer(heap, Err(refusal), ""),
     }
@@ -134,6 +135,10 @@ fn word(text: &[u8]) -> u64 {
     u64::from_le_bytes(bytes)
 }
 
-pub fn page_answer(heap: Global, text: &[u8]) -> Result<Answer, AllocError> {
-    record_answer(heap, Ok(()), Page(PageInfo::parse_info(word(text))))
+pub fn page_answer(heap: Global, text: &Text) -> Result<Answer, AllocError> {
+    record_answer(
+        heap,
+        Ok(()),
+        Page(PageInfo::parse_info(word(text.bytes.as_slice()))),
+    )
 }
