@@ -11,11 +11,16 @@
 //     used
 //
 // The first call is the limit, and no other is. FILE holds smaps, status or limits text; after the word `recording` it holds a recording of one. NAME is the latest measure of that name above.
-ghost use Rattle.std.specs.Prelude.{◌≡◌, MatchResult};
+ghost use Rattle.std.specs.Prelude.{◌≡◌, ◌⊎◌, true, false, map, None, Some, Ok, Err, IfOk, MatchResult};
+ghost use Rattle.std.specs.Option.{ok_or};
+ghost use Rattle.packlist.specs.declared.script.Mistake.TheVariants as mistake;
+ghost use Rattle.packlist.specs.Script.{IsScript, asked, bytes_in, came, file_of, latest_of, pid_in, read_by, with_call, with_limit, with_line, with_name, words_of};
+ghost use Rattle.sources.specs.Pieces.{bytes_of};
+ghost use Rattle.sources.specs.Utf8.{is_utf8};
 
 use crate::input::Form;
 use runs::call::Call;
-use runs::run::NoRoom;
+use sources::number::{FromStrRadix, Radix};
 use std::alloc::{AllocError, AllocFailed, Global};
 use std::error::Error;
 use std::{fmt, io};
@@ -93,12 +98,16 @@ impl fmt::Display for Mistake<'_> {
 impl Error for Mistake<'_> {}
 
 impl From<AllocError> for Mistake<'_> {
+    ghost from_gives = { λ _ r. r ≡ mistake.Memory };
+
     fn from(_error: AllocError) -> Self {
         Mistake::Memory
     }
 }
 
 impl<T: Drop> From<AllocFailed<T>> for Mistake<'_> {
+    ghost from_gives = { λ _ r. r ≡ mistake.Memory };
+
     fn from(_error: AllocFailed<T>) -> Self {
         Mistake::Memory
     }
@@ -116,15 +125,6 @@ impl From<AllocError> for Fault<'_> {
 impl<T: Drop> From<AllocFailed<T>> for Fault<'_> {
     fn from(error: AllocFailed<T>) -> Self {
         Fault::from(AllocError::from(error))
-    }
-}
-
-impl From<NoRoom> for Fault<'_> {
-    fn from(_error: NoRoom) -> Self {
-        Fault {
-            line: None,
-            mistake: Mistake::Memory,
-        }
     }
 }
 
@@ -154,15 +154,21 @@ fn misuse<'a>(name: &'a str) -> Mistake<'a> {
     }
 }
 
-fn read_bytes<'a>(word: &'a str) -> Result<u64, Mistake<'a>> {
-    word.parse().map_err(|_| Mistake::Bytes(word))
+fn read_bytes<'a>(word: &'a str) -> Result<u64, Mistake<'a>>
+    ensures { result ≡ bytes_in word.entry }
+{
+    FromStrRadix::from_str_radix(word, Radix::Decimal).map_err(|_| Mistake::Bytes(word))
 }
 
-fn read_pid<'a>(word: &'a str) -> Result<i32, Mistake<'a>> {
-    word.parse().map_err(|_| Mistake::Pid(word))
+fn read_pid<'a>(word: &'a str) -> Result<i32, Mistake<'a>>
+    ensures { result ≡ pid_in word.entry }
+{
+    FromStrRadix::from_str_radix(word, Radix::Decimal).map_err(|_| Mistake::Pid(word))
 }
 
-fn text_file<'a>(words: &[&'a str]) -> Option<TextFile<'a>> {
+fn text_file<'a>(words: &[&'a str]) -> Option<TextFile<'a>>
+    ensures { result ≡ file_of words.now }
+{
     match words {
         [path] => Some(TextFile {
             form: Form::Plain,
@@ -177,49 +183,97 @@ fn text_file<'a>(words: &[&'a str]) -> Option<TextFile<'a>> {
 }
 
 // The number of the latest measure of a name.
-fn latest<'a>(names: &[&'a str], name: &'a str) -> Result<usize, Mistake<'a>> {
-    names
-        .iter()
-        .rposition(|other| *other == name)
-        .ok_or(Mistake::NoMeasure(name))
+fn latest<'a>(names: &[&'a str], name: &'a str) -> Result<usize, Mistake<'a>>
+    ensures { result ≡ ok_or (latest_of names.now name.now) (mistake.NoMeasure name.entry) }
+{
+    let mut latest = None;
+    for i in 0..names.len() {
+        if names[i] == name {
+            latest = Some(i);
+        }
+    }
+    latest.ok_or(Mistake::NoMeasure(name))
 }
 
 // The call that a name and the words behind it ask for, with the names of the measures above.
+#[tactic(auto, unfolding(crate::specs::Script::asked))]
 fn read_call<'a>(
     name: &'a str,
     words: &[&'a str],
     names: &[&'a str],
-) -> Result<Call<TextFile<'a>>, Mistake<'a>> {
-    Ok(match (name, words) {
-        ("measure", [_, file @ ..]) => Call::Measure {
-            text: text_file(file).ok_or(misuse(name))?,
-        },
-        ("admit", [job, headroom, measure]) => Call::Admit {
-            pid: read_pid(job)?,
-            headroom: read_bytes(headroom)?,
-            measure: latest(names, measure)?,
-        },
-        ("remeasure", [job, measure]) => Call::Remeasure {
-            pid: read_pid(job)?,
-            measure: latest(names, measure)?,
-        },
-        ("note", [job, file @ ..]) => Call::Note {
-            pid: read_pid(job)?,
-            text: text_file(file).ok_or(misuse(name))?,
-        },
-        ("bound", [job, file @ ..]) => Call::Bound {
-            pid: read_pid(job)?,
-            text: text_file(file).ok_or(misuse(name))?,
-        },
-        ("release", [job]) => Call::Release {
-            pid: read_pid(job)?,
-        },
-        ("look", [job]) => Call::Look {
-            pid: read_pid(job)?,
-        },
-        ("used", []) => Call::Used,
-        _ => return Err(misuse(name)),
-    })
+) -> Result<Call<TextFile<'a>>, Mistake<'a>>
+    ensures { came result ≡ asked name.entry words.now names.now }
+{
+    match name {
+        "measure" => {
+            let [_, file @ ..] = words else {
+                return Err(misuse(name));
+            };
+            Ok(Call::Measure {
+                text: text_file(file).ok_or(misuse(name))?,
+            })
+        }
+        "admit" => {
+            let [job, headroom, measure] = words else {
+                return Err(misuse(name));
+            };
+            Ok(Call::Admit {
+                pid: read_pid(job)?,
+                headroom: read_bytes(headroom)?,
+                measure: latest(names, measure)?,
+            })
+        }
+        "remeasure" => {
+            let [job, measure] = words else {
+                return Err(misuse(name));
+            };
+            Ok(Call::Remeasure {
+                pid: read_pid(job)?,
+                measure: latest(names, measure)?,
+            })
+        }
+        "note" => {
+            let [job, file @ ..] = words else {
+                return Err(misuse(name));
+            };
+            Ok(Call::Note {
+                pid: read_pid(job)?,
+                text: text_file(file).ok_or(misuse(name))?,
+            })
+        }
+        "bound" => {
+            let [job, file @ ..] = words else {
+                return Err(misuse(name));
+            };
+            Ok(Call::Bound {
+                pid: read_pid(job)?,
+                text: text_file(file).ok_or(misuse(name))?,
+            })
+        }
+        "release" => {
+            let [job] = words else {
+                return Err(misuse(name));
+            };
+            Ok(Call::Release {
+                pid: read_pid(job)?,
+            })
+        }
+        "look" => {
+            let [job] = words else {
+                return Err(misuse(name));
+            };
+            Ok(Call::Look {
+                pid: read_pid(job)?,
+            })
+        }
+        "used" => {
+            let [] = words else {
+                return Err(misuse(name));
+            };
+            Ok(Call::Used)
+        }
+        _ => Err(misuse(name)),
+    }
 }
 
 // What the lines read so far come to.
@@ -231,43 +285,92 @@ struct Draft<'a> {
     lines: Vec<Line<'a>>,
 }
 
-impl<'a> Draft<'a> {
-    fn put(&mut self, number: u64, text: &'a [u8]) -> Result<(), Mistake<'a>> {
-        let text = str::from_utf8(text).map_err(|_| Mistake::Utf8)?;
-        let words: Vec<&'a str> = text.split_ascii_whitespace().collect(self.alloc)?;
-        match words.as_slice() {
-            [] => {}
-            [first, ..] if first.starts_with('#') => {}
-            ["limit", others @ ..] => {
-                if self.limit.is_some() {
-                    return Err(Mistake::SecondLimit);
-                }
-                let [bytes] = others else {
-                    return Err(misuse("limit"))
-                };
-                let bytes = read_bytes(bytes)?;
-                self.limit = Some(Limit { words, bytes });
-            }
-            [name, others @ ..] => {
-                if self.limit.is_none() {
-                    return Err(Mistake::NoLimit);
-                }
-                let call = read_call(name, others, self.names.as_slice())?;
-                if let (Call::Measure { .. }, [measure, ..]) = (&call, others) {
-                    self.names.push(measure)?;
-                }
-                self.lines.push(Line {
-                    number,
-                    words,
-                    call,
-                })?;
-            }
-        }
-        Ok(())
+// The text of a line.
+#[tactic(auto, using(sources::proofs::Steps::text_true, sources::proofs::Steps::text_false))]
+fn text_in<'a>(line: &'a [u8]) -> Result<&'a str, Mistake<'a>>
+    ensures { MatchResult result (λ t. (t.now ≡ line.now) × (is_utf8 line.now ≡ true)) (λ m. (m ≡ mistake.Utf8) × (is_utf8 line.now ≡ false)) }
+{
+    match str::from_utf8(line) {
+        Ok(text) => Ok(text),
+        Err(_) => Err(Mistake::Utf8),
     }
 }
 
-pub fn parse<'a>(alloc: Global, text: &'a [u8]) -> Result<Script<'a>, Fault<'a>> {
+// The words of a line, between ASCII white space.
+fn words_in<'a>(alloc: Global, line: &'a [u8]) -> Result<Vec<&'a str>, Mistake<'a>>
+    ensures { MatchResult result (λ v. (map bytes_of v.items ≡ words_of line.now) × (is_utf8 line.now ≡ true)) (λ m. (m ≡ mistake.Memory) ⊎ ((m ≡ mistake.Utf8) × (is_utf8 line.now ≡ false))) }
+{
+    let text = text_in(line)?;
+    Ok(text.split_ascii_whitespace().collect(alloc)?)
+}
+
+// The name of a measure, where the call is one.
+fn put_name<'a>(
+    names: &mut Vec<&'a str>,
+    call: &Call<TextFile<'a>>,
+    words: &[&'a str],
+) -> Result<(), AllocError>
+    ensures { IfOk result (λ _. names.new.items ≡ with_name call.now words.now names.old.items) }
+{
+    let Call::Measure { .. } = call else {
+        return Ok(());
+    };
+    let [name, ..] = words else {
+        return Ok(());
+    };
+    Ok(names.push(name)?)
+}
+
+impl<'a> Draft<'a> {
+    fn put_limit(&mut self, words: Vec<&'a str>) -> Result<(), Mistake<'a>>
+        ensures { MatchResult result (λ _. with_limit words.entry.items (read_by self.old) ≡ Some (read_by self.new)) (λ _. with_limit words.entry.items (read_by self.old) ≡ None) }
+    {
+        if self.limit.is_some() {
+            return Err(Mistake::SecondLimit);
+        }
+        let [_, bytes] = words.as_slice() else {
+            return Err(misuse("limit"));
+        };
+        let bytes = read_bytes(bytes)?;
+        self.limit = Some(Limit { words, bytes });
+        Ok(())
+    }
+
+    fn put_call(&mut self, number: u64, words: Vec<&'a str>) -> Result<(), Mistake<'a>>
+        ensures { MatchResult result (λ _. with_call number words.entry.items (read_by self.old) ≡ Some (read_by self.new)) (λ m. (m ≡ mistake.Memory) ⊎ (with_call number words.entry.items (read_by self.old) ≡ None)) }
+    {
+        let [name, others @ ..] = words.as_slice() else {
+            return Ok(());
+        };
+        if self.limit.is_none() {
+            return Err(Mistake::NoLimit);
+        }
+        let call = read_call(name, others, self.names.as_slice())?;
+        put_name(&mut self.names, &call, others)?;
+        self.lines.push(Line {
+            number,
+            words,
+            call,
+        })?;
+        Ok(())
+    }
+
+    // Takes in what a line of these words asks for.
+    fn put(&mut self, number: u64, words: Vec<&'a str>) -> Result<(), Mistake<'a>>
+        ensures { MatchResult result (λ _. with_line number words.entry.items (read_by self.old) ≡ Some (read_by self.new)) (λ m. (m ≡ mistake.Memory) ⊎ (with_line number words.entry.items (read_by self.old) ≡ None)) }
+    {
+        match words.as_slice() {
+            [] => Ok(()),
+            [first, ..] if first.starts_with('#') => Ok(()),
+            ["limit", ..] => self.put_limit(words),
+            [..] => self.put_call(number, words),
+        }
+    }
+}
+
+pub fn parse<'a>(alloc: Global, text: &'a [u8]) -> Result<Script<'a>, Fault<'a>>
+    ensures { IfOk result (λ s. IsScript text.now s) }
+{
     let mut draft = Draft {
         alloc,
         limit: None,
@@ -277,7 +380,8 @@ pub fn parse<'a>(alloc: Global, text: &'a [u8]) -> Result<Script<'a>, Fault<'a>>
     let mut number = 0u64;
     for line in text.split(|b| *b == b'\n') {
         number = number.saturating_add(1);
-        at_line(number, draft.put(number, line))?;
+        let words = at_line(number, words_in(alloc, line))?;
+        at_line(number, draft.put(number, words))?;
     }
     let Draft { limit, lines, .. } = draft;
     match limit {

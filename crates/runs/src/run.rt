@@ -31,8 +31,10 @@ impl Model for Memory {
 }
 
 impl Memory {
+    // Memory for no call at all never lacks.
     pub fn new(alloc: Global, calls: usize) -> Result<Memory, AllocError>
-        ensures { IfOk result (λ m. m ≡ calls) }
+        ensures room { IfOk result (λ m. m ≡ calls) }
+        ensures none { calls ≡ 0 → IsOk result }
     {
         Ok(Memory {
             answers: Vec::with_capacity(alloc, calls)?,

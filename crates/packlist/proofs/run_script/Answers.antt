@@ -8,9 +8,9 @@ use Rattle.packlist.proofs.run_script.Goals as goal
 pub returns-clause-twice : goal.returns-clause-twice
 returns-clause-twice c =
     let s = c.args.script.now in
-    let defined : c.in_ok-run.field-0.items ≡ answers_of s.limit.bytes (calls_of (λ l b. call_with b.items l.call) s.lines.items c.args.texts.now) = search rules in
+    let defined : c.unwrap.result.items ≡ answers_of s.limit.bytes (calls_of (λ l b. call_with b.items l.call) s.lines.items c.args.texts.now) = search rules in
     let one_each : length c.args.texts.now ≡ length s.lines.items = search rules in
-    let is_length : vec_len c.in_ok-run.field-0 ≡ length c.in_ok-run.field-0.items = search rules in
+    let is_length : vec_len c.unwrap.result ≡ length c.unwrap.result.items = search rules in
     let lines_length : length s.lines.items ≡ vec_len s.lines = search rules in
     is_length
     ∙ ap length defined

@@ -1,0 +1,50 @@
+-- One line more of a script.
+use Rattle.std.proofs.Common.{◌≡◌, ◌∙◌, ap, ap₂, subst, sym, refl, Bor, List, [], ◌∷◌, ◌++◌, map, ℕ, Option, Some, None}
+use Rattle.std.proofs.lemmas.List.{map-append}
+use Rattle.sources.specs.Pieces.{bytes_of, case_of}
+use Rattle.packlist.specs.Script.{Word, Read, AreWords, next, nothing_read, read_by, with_line, with_lines, words_of}
+use Rattle.packlist.specs.declared.script.Draft.{Draft}
+
+-- The number of the last of these lines.
+abbrev pub numbered : ℕ → List (List Word) → ℕ
+numbered n [] = n
+numbered n (ws ∷ more) = numbered (next n) more
+
+itself : (o : Option Read) → case_of o None (λ r. Some r) ≡ o
+itself None = refl
+itself (Some r) = refl
+
+twice : (o : Option Read) (f g h : Read → Option Read) → ((r : Read) → f r ≡ case_of (g r) None h) → case_of o None f ≡ case_of (case_of o None g) None h
+twice None f g h e = refl
+twice (Some r) f g h e = e r
+
+pub one_line : (n : ℕ) (rows : List (List Word)) (ws : List Word) (r : Read) → with_lines n (rows ++ ws ∷ []) r ≡ case_of (with_lines n rows r) None (with_line (next (numbered n rows)) ws)
+one_line n [] ws r = itself (with_line (next n) ws r)
+one_line n (row ∷ rows) ws r =
+    twice (with_line (next n) row r) (with_lines (next n) (rows ++ ws ∷ [])) (with_lines (next n) rows) (with_line (next (numbered (next n) rows)) ws) (one_line (next n) rows ws)
+
+pub number_one : (n : ℕ) (rows : List (List Word)) (ws : List Word) → numbered n (rows ++ ws ∷ []) ≡ next (numbered n rows)
+number_one n [] ws = refl
+number_one n (row ∷ rows) ws = number_one (next n) rows ws
+
+-- The lines before this one have words that come to this draft.
+abbrev pub ReadSoFar : List (List ℕ) → Draft → ℕ → Type 0
+ReadSoFar lines d number = (rows : List (List Word)) × AreWords rows lines × (with_lines 0 rows nothing_read ≡ Some (read_by d)) × (numbered 0 rows ≡ number)
+
+pub more : (lines : List (List ℕ)) (line : List ℕ) (d d' : Draft) (n : ℕ) (ws : List Word) → ReadSoFar lines d n → map bytes_of ws ≡ words_of line → with_line (next n) ws (read_by d) ≡ Some (read_by d')
+    → ReadSoFar (lines ++ line ∷ []) d' (next n)
+more lines line d d' n ws s e h =
+    let rows = s.0 in (
+      rows ++ ws ∷ [],
+      map-append (map bytes_of) rows (ws ∷ []) ∙ ap₂ (λ a b. a ++ b ∷ []) s.1 e ∙ sym (map-append words_of lines (line ∷ [])),
+      one_line 0 rows ws nothing_read ∙ ap (λ o. case_of o None (with_line (next (numbered 0 rows)) ws)) s.2 ∙ ap (λ k. with_line (next k) ws (read_by d)) s.3 ∙ h,
+      number_one 0 rows ws ∙ ap next s.3,
+    )
+
+-- The same as the loop has it.
+pub turn : (ys ys' : List (Bor (List ℕ))) (y : Bor (List ℕ)) (d d' : Draft) (n n' : ℕ) (ws : List Word) → ys' ≡ ys ++ y ∷ [] → n' ≡ next n
+    → ReadSoFar (map bytes_of ys) d n → map bytes_of ws ≡ words_of y.now → with_line n' ws (read_by d) ≡ Some (read_by d') → ReadSoFar (map bytes_of ys') d' n'
+turn ys ys' y d d' n n' ws p q s e h =
+    subst (λ k. ReadSoFar (map bytes_of ys') d' k) (sym q)
+    (subst (λ v. ReadSoFar v d' (next n)) (sym (ap (map bytes_of) p ∙ map-append bytes_of ys (y ∷ [])))
+    (more (map bytes_of ys) y.now d d' n ws s e (ap (λ k. with_line k ws (read_by d)) (sym q) ∙ h)))
