@@ -11,13 +11,13 @@ use Rattle.charge.specs.declared.report.Charged.{Charged}
 use Rattle.charge.specs.declared.report.Refused.{Refused}
 
 -- What is charged for a measure.
-abbrev pub told : Result Closed Refusal → Result Charged Refused
-told (Ok c) = Ok (record { 0 = c })
-told (Err f) = Err (record { 0 = f })
+abbrev pub as_charge : Result Closed Refusal → Result Charged Refused
+as_charge (Ok c) = Ok (record { 0 = c })
+as_charge (Err f) = Err (record { 0 = f })
 
 -- An input of more than 65,536 bytes is refused 3, with no line.
 abbrev pub report_of : List ℕ → Result Charged Refused
-report_of input = cond (nat_lt 65536 (length input)) (told (Err (refused LongText 0))) (told (measured (text input false)))
+report_of input = cond (nat_lt 65536 (length input)) (as_charge (Err (refused LongText 0))) (as_charge (measured (text input false)))
 
 -- Numbers are written in base ten.
 abbrev pub line_of : Result Charged Refused → List ℕ

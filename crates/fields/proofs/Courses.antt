@@ -7,7 +7,7 @@ use Rattle.sources.specs.declared.fault.Refusal.{Refusal}
 use Rattle.sources.specs.declared.kind.Break.{Break}
 use Rattle.sources.specs.declared.kind.Break.TheVariants.{Refuses, Ends}
 use Rattle.sources.specs.Faults.{at_line}
-use Rattle.sources.specs.Lines.{lines_of, text_of, long, lost, judged, walk, Outcome, broke, on_fault, ending, course, leaves, reading}
+use Rattle.sources.specs.Lines.{lines_of, text_of, long, lost, judged, walk, Outcome, broke, on_fault, at_end, course, leaves, reading}
 use Rattle.sources.specs.Texts.{Text}
 use Rattle.sources.specs.Rules.{Rules}
 use Rattle.sources.specs.Utf8.{is_utf8}
@@ -16,7 +16,7 @@ use Rattle.sources.proofs.Walks.{ends}
 use Rattle.fields.specs.Slots.{entered, after_entry}
 use Rattle.std.specs.Result.{result_err}
 use Rattle.fields.specs.Slotted.{slot_rules}
-use Rattle.fields.specs.LastLines.{breaks, before, through, breaks_off, good, sound, Orderly, put, entries_of, last_lines}
+use Rattle.fields.specs.LastLines.{breaks, before, with_breaking, breaks_off, good, sound, Orderly, put, entries_of, last_lines}
 
 -- what a line brings: a refusal of its length, or of the text's; a break; or what the kind makes of it
 data Brought {M C : Type 0} (room most : ℕ) (R : Rules M C) (broken : Bool) (k s : ℕ) (m : M) (l left : List ℕ) (go : Outcome M) : Type 0 where
@@ -89,17 +89,17 @@ module _ {E S R : Type 0} (entry : List ℕ → Result (Option E) Fault) (fill :
   unfolding before entries_of
   after_on k es broken l ls e = rw e (ap (λ (n : ℕ). at_line n (judges (fill (entries_of entry (put (entry l) es) (before broken ls)) fresh))) (omega arith))
 
-  through-on : (broken : Bool) (l : List ℕ) (ls : List (List ℕ)) → breaks broken l ≡ false → length (text_of (through broken (l ∷ ls))) ≡ length l + length (text_of (through broken ls))
-  unfolding through
-  through-on broken l ls e = rw e (text_cons l (through broken ls))
+  through-on : (broken : Bool) (l : List ℕ) (ls : List (List ℕ)) → breaks broken l ≡ false → length (text_of (with_breaking broken (l ∷ ls))) ≡ length l + length (text_of (with_breaking broken ls))
+  unfolding with_breaking
+  through-on broken l ls e = rw e (text_cons l (with_breaking broken ls))
 
-  through-off : (broken : Bool) (l : List ℕ) (ls : List (List ℕ)) → breaks broken l ≡ true → length (text_of (through broken (l ∷ ls))) ≡ length l
-  unfolding through
+  through-off : (broken : Bool) (l : List ℕ) (ls : List (List ℕ)) → breaks broken l ≡ true → length (text_of (with_breaking broken (l ∷ ls))) ≡ length l
+  unfolding with_breaking
   through-off broken l ls e = rw e (omega (arith, text_cons l [], text_over))
 
-  through-least : (broken : Bool) (l : List ℕ) (ls : List (List ℕ)) → length l ≤ length (text_of (through broken (l ∷ ls)))
-  unfolding through
-  through-least broken l ls = let e = text_cons l (cond (breaks broken l) [] (through broken ls)) in omega (arith, e)
+  through-least : (broken : Bool) (l : List ℕ) (ls : List (List ℕ)) → length l ≤ length (text_of (with_breaking broken (l ∷ ls)))
+  unfolding with_breaking
+  through-least broken l ls = let e = text_cons l (cond (breaks broken l) [] (with_breaking broken ls)) in omega (arith, e)
 
   off_on : (broken : Bool) (l : List ℕ) (ls : List (List ℕ)) → breaks broken l ≡ false → breaks_off broken (l ∷ ls) ≡ breaks_off broken ls
   unfolding breaks_off
@@ -110,12 +110,12 @@ module _ {E S R : Type 0} (entry : List ℕ → Result (Option E) Fault) (fill :
   off_off broken l ls e = rw e
 
   -- the end of the text
-  over : (k : ℕ) (es : List E) (broken : Bool) → (on_break ≡ Refuses → broken ≡ false) → ends rules (ending on_break broken k, Ok (fill es fresh), []) ≡ answer k es broken []
+  over : (k : ℕ) (es : List E) (broken : Bool) → (on_break ≡ Refuses → broken ≡ false) → ends rules (at_end on_break broken k, Ok (fill es fresh), []) ≡ answer k es broken []
   unfolding before entries_of
   over k es false w = let z : k + 0 ≡ k = omega arith in rw z
   over k es true w = let z : k + 0 ≡ k = omega arith in rw z (off_ends rules on_break k (Ok (fill es fresh)) [] refl (λ q. let f = w q in cc))
 
-  forward : (most : ℕ) (broken : Bool) (k s : ℕ) (es : List E) (ls : List (List ℕ)) → sound entry broken ls ≡ true → s + length (text_of (through broken ls)) ≤ most → (on_break ≡ Refuses → breaks_off broken ls ≡ false) →
+  forward : (most : ℕ) (broken : Bool) (k s : ℕ) (es : List E) (ls : List (List ℕ)) → sound entry broken ls ≡ true → s + length (text_of (with_breaking broken ls)) ≤ most → (on_break ≡ Refuses → breaks_off broken ls ≡ false) →
       ends rules (walk 4096 most rules broken k s (Ok (fill es fresh)) ls) ≡ answer k es broken ls
   unfolding walk sound breaks_off
   forward most broken k s es [] h f w = over k es broken w
@@ -147,16 +147,16 @@ module _ {E S R : Type 0} (entry : List ℕ → Result (Option E) Fault) (fill :
   unfolding sound
   sound-off broken l ls a b = rw (a, b)
 
-  over_ok : (k : ℕ) (es : List E) (broken : Bool) (c : R) → ends rules (ending on_break broken k, Ok (fill es fresh), []) ≡ Ok c → on_break ≡ Refuses → broken ≡ false
+  over_ok : (k : ℕ) (es : List E) (broken : Bool) (c : R) → ends rules (at_end on_break broken k, Ok (fill es fresh), []) ≡ Ok c → on_break ≡ Refuses → broken ≡ false
   over_ok k es false c e q = refl
   over_ok k es true c e q = absurd (off_ok rules on_break k (Ok (fill es fresh)) [] c refl e q)
 
   abbrev Read : ℕ → Bool → ℕ → List (List ℕ) → Type 0
-  Read most broken s ls = (sound entry broken ls ≡ true) × (s + length (text_of (through broken ls)) ≤ most) × (on_break ≡ Refuses → breaks_off broken ls ≡ false)
+  Read most broken s ls = (sound entry broken ls ≡ true) × (s + length (text_of (with_breaking broken ls)) ≤ most) × (on_break ≡ Refuses → breaks_off broken ls ≡ false)
 
   backward : (most : ℕ) (broken : Bool) (k s : ℕ) (es : List E) (ls : List (List ℕ)) (c : R) → s ≤ most →
       ends rules (walk 4096 most rules broken k s (Ok (fill es fresh)) ls) ≡ Ok c → Read most broken s ls
-  unfolding walk sound breaks_off through
+  unfolding walk sound breaks_off with_breaking
   backward most broken k s es [] c h e = (refl, omega (arith, text_over), over_ok k es broken c e)
   backward most broken k s es (l ∷ ls) c h x =
       let m = Ok (fill es fresh) in

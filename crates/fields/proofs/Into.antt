@@ -9,10 +9,10 @@ use Rattle.sources.specs.Texts.{Text, text}
 use Rattle.sources.specs.Rules.{Rules}
 use Rattle.sources.proofs.Newer.{newer}
 use Rattle.fields.specs.Slotted.{slot_rules, has_begun, foreign_aside, begins_with_any}
-use Rattle.fields.specs.LastLines.{told, recorded, into, ToldByLastLines, SameRecordInEditions}
+use Rattle.fields.specs.LastLines.{told, left_in_record, into, ToldByLastLines, SameRecordInEditions}
 use Rattle.fields.proofs.Courses.{orderly-answered, accepted_orderly}
 
-same-told : {R : Type 0} (blank : R) (x y : Result R Refusal) → Same x y → Same (told x) (told y) × (recorded blank x ≡ recorded blank y)
+same-told : {R : Type 0} (blank : R) (x y : Result R Refusal) → Same x y → Same (told x) (told y) × (left_in_record blank x ≡ left_in_record blank y)
 same-told {R} blank (Ok v) (Ok w) e = (refl, e)
 same-told {R} blank (Ok v) (Err g) e = absurd e
 same-told {R} blank (Err f) (Ok w) e = absurd e
@@ -34,13 +34,13 @@ module _ {E S R : Type 0} (entry : List ℕ → Result (Option E) Fault) (fill :
   from_none : (t : Text) → (reading rules (Ok (fill [] fresh)) t).0 ≡ result t
   from_none t = ap (λ (s : S). (reading rules (Ok s) t).0) none
 
-  by_last_lines : (t : Text) → ToldByLastLines entry fill judges fresh blank on_break t (told (result t)) (recorded blank (result t))
+  by_last_lines : (t : Text) → ToldByLastLines entry fill judges fresh blank on_break t (told (result t)) (left_in_record blank (result t))
   by_last_lines t = (
-    λ o. let e = sym (from_none t) ∙ orderly-answered entry fill judges fresh on_break more t o in record { answer = ap told e; holds = ap (recorded blank) e },
+    λ o. let e = sym (from_none t) ∙ orderly-answered entry fill judges fresh on_break more t o in record { answer = ap told e; holds = ap (left_in_record blank) e },
     λ h. told-ok (result t) h (λ v e. accepted_orderly entry fill judges fresh on_break more t v (from_none t ∙ e)),
   )
 
-  same-editions : (t : Text) → SameRecordInEditions rules has_begun foreign (Ok fresh) blank t (told (result t)) (recorded blank (result t))
+  same-editions : (t : Text) → SameRecordInEditions rules has_begun foreign (Ok fresh) blank t (told (result t)) (left_in_record blank (result t))
   same-editions t bytes' d h =
       same-told blank (result t) (result (text bytes' t.broken)) (newer rules has_begun foreign (foreign_aside entry fill judges on_break foreign aside) (begins_with_any entry fill judges on_break) (Ok fresh) t bytes' refl d h)
 
@@ -52,7 +52,7 @@ module _ {E S R : Type 0} (entry : List ℕ → Result (Option E) Fault) (fill :
 
   -- It holds of what the reading answers, puts into the record and leaves.
   pub shown : (t : Text) {x : Result R Refusal} {left : Text} {r : Result (Unit {0}) Refusal} {b v : R} →
-      (x, left) ≡ reading rules (Ok fresh) t → b ≡ blank → r ≡ told x → v ≡ recorded b x → Shown t (r, v, left)
+      (x, left) ≡ reading rules (Ok fresh) t → b ≡ blank → r ≡ told x → v ≡ left_in_record b x → Shown t (r, v, left)
   shown t {x} {left} {r} {b} {v} e f g k =
       let q : (r, v, left) ≡ into blank (reading rules (Ok fresh) t) = rw (g, k, f) (ap (into blank) e) in
       subst (Shown t) (sym q) (record { defined = refl; lines = by_last_lines t; editions = same-editions t })

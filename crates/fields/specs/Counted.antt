@@ -11,5 +11,5 @@ abbrev pub with_item : {X : Type 0} {n : ℕ} → X → Counted X n → Counted 
 with_item {X} {n} x list = record { cells = slice_set list.cells list.len x; len = list.len + 1 }
 
 -- The first 4096 bytes of a text.
-unfoldable pub text_of : List ℕ → Counted ℕ 4096
-text_of bs = counted 4096 0 (take 4096 bs)
+unfoldable pub kept_text : List ℕ → Counted ℕ 4096
+kept_text bs = counted 4096 0 (take 4096 bs)

@@ -21,9 +21,9 @@ before broken [] = []
 before broken (l ∷ ls) = cond (breaks broken l) [] (l ∷ before broken ls)
 
 -- These, and the line that breaks the text off.
-unfoldable pub through : Bool → List (List ℕ) → List (List ℕ)
-through broken [] = []
-through broken (l ∷ ls) = l ∷ cond (breaks broken l) [] (through broken ls)
+unfoldable pub with_breaking : Bool → List (List ℕ) → List (List ℕ)
+with_breaking broken [] = []
+with_breaking broken (l ∷ ls) = l ∷ cond (breaks broken l) [] (with_breaking broken ls)
 
 -- Whether the text breaks off, at a line or at its end.
 unfoldable pub breaks_off : Bool → List (List ℕ) → Bool
@@ -43,7 +43,7 @@ sound {E} entry broken (l ∷ ls) = cond (long max_line l) false (cond (breaks b
 -- A text that can be read: where a break refuses, it does not break off.
 pub record Orderly {E : Type 0} (entry : List ℕ → Result (Option E) Fault) (on_break : Break) (broken : Bool) (ls : List (List ℕ)) : Type 0 where
   pub lines : sound entry broken ls ≡ true
-  pub fits : length (text_of (through broken ls)) ≤ max_text
+  pub fits : length (text_of (with_breaking broken ls)) ≤ max_text
   pub whole : on_break ≡ Refuses → breaks_off broken ls ≡ false
 
 -- The entries of lines, put before those had: so the last stands first.
@@ -65,18 +65,18 @@ abbrev pub told : {R : Type 0} → Result R Refusal → Result (Unit {0}) Refusa
 told {R} (Ok v) = Ok tt
 told {R} (Err f) = Err f
 
-abbrev pub recorded : {R : Type 0} → R → Result R Refusal → R
-recorded {R} blank (Ok v) = v
-recorded {R} blank (Err f) = blank
+abbrev pub left_in_record : {R : Type 0} → R → Result R Refusal → R
+left_in_record {R} blank (Ok v) = v
+left_in_record {R} blank (Err f) = blank
 
 -- The answer, the caller's record and the text left, of a reading.
 abbrev pub into : {R : Type 0} → R → Result R Refusal × Text → Result (Unit {0}) Refusal × R × Text
-into {R} blank o = (told o.0, recorded blank o.0, o.1)
+into {R} blank o = (told o.0, left_in_record blank o.0, o.1)
 
 -- An answer and a record are those of a reading's result.
 pub record Gives {R : Type 0} (blank : R) (x : Result R Refusal) (r : Result (Unit {0}) Refusal) (v : R) : Type 0 where
   pub answer : r ≡ told x
-  pub holds : v ≡ recorded blank x
+  pub holds : v ≡ left_in_record blank x
 
 -- An orderly text is answered by its last lines alone, and only an orderly text is accepted.
 abbrev pub ToldByLastLines : {E S R : Type 0} → (List ℕ → Result (Option E) Fault) → (List E → S → S) → (S → Result R Fault) → S → R → Break → Text → Result (Unit {0}) Refusal → R → Type 0
@@ -88,4 +88,4 @@ ToldByLastLines {E} {S} {R} entry fill judged fresh blank on_break t r v =
 abbrev pub SameRecordInEditions : {M R : Type 0} → Rules M R → (M → Bool) → (List ℕ → Bool) → M → R → Text → Result (Unit {0}) Refusal → R → Type 0
 SameRecordInEditions {M} {R} rules begun foreign m blank t r v =
     (bytes' : List ℕ) → Edition foreign (begun m) (lines_of t.bytes) (lines_of bytes') → length bytes' ≤ max_text →
-    Same r (told (reading rules m (text bytes' t.broken)).0) × (v ≡ recorded blank (reading rules m (text bytes' t.broken)).0)
+    Same r (told (reading rules m (text bytes' t.broken)).0) × (v ≡ left_in_record blank (reading rules m (text bytes' t.broken)).0)

@@ -30,14 +30,14 @@ abbrev pub kilobytes_of : List ℕ → Result ℕ Fault
 kilobytes_of bs = figure_of 64 Decimal (unwrap_or (shorn (codes " kB") bs) bs)
 
 -- A word that has to be there.
-abbrev pub word_of : Option (List ℕ) → Result ℕ Fault
-word_of None = Err (fault Short)
-word_of (Some w) = figure_of 32 Decimal w
+abbrev pub needed_word : Option (List ℕ) → Result ℕ Fault
+needed_word None = Err (fault Short)
+needed_word (Some w) = figure_of 32 Decimal w
 
 -- The first four words: each is judged by itself.
 abbrev pub four_of : List ℕ → Four
 four_of bs =
-    let ws = white_words bs in record { real = word_of (nth 0 ws); effective = word_of (nth 1 ws); saved = word_of (nth 2 ws); filesystem = word_of (nth 3 ws) }
+    let ws = white_words bs in record { real = needed_word (nth 0 ws); effective = needed_word (nth 1 ws); saved = needed_word (nth 2 ws); filesystem = needed_word (nth 3 ws) }
 
 -- Two numbers with a slash between them.
 abbrev pub pair_of : List ℕ → Result (ℕ × ℕ) Fault

@@ -1,5 +1,5 @@
 ghost use Rattle.std.specs.Prelude.{◌≡◌, ◌≤◌, [], length, take, if◌then◌else◌, nat_lt};
-ghost use Rattle.fields.specs.Counted.{counted, with_item, text_of};
+ghost use Rattle.fields.specs.Counted.{counted, with_item, kept_text};
 
 use crate::list::ListFault;
 
@@ -58,7 +58,7 @@ impl<T: Copy, const N: usize> Counted<T, N> {
 
 // The first 4096 bytes of a text, kept.
 pub fn copied(text: &str) -> Text
-    ensures { result ≡ text_of text.now }
+    ensures { result ≡ kept_text text.now }
 {
     let kept = front(text.as_bytes(), 4096);
     let mut cells = [0; 4096];

@@ -4,7 +4,7 @@ ghost use Rattle.sources.specs.Faults.{as_fault};
 ghost use Rattle.sources.specs.Pieces.{bytes_of};
 ghost use Rattle.sources.specs.White.{white_words};
 ghost use Rattle.fields.specs.Lists.{IsFilled};
-ghost use Rattle.fields.specs.Values.{comma_parts, kilobytes_of, word_of, four_of, pair_of, groups_of, spaces_of, mask_of, ranges_of, flag_of};
+ghost use Rattle.fields.specs.Values.{comma_parts, kilobytes_of, needed_word, four_of, pair_of, groups_of, spaces_of, mask_of, ranges_of, flag_of};
 
 use crate::counted::Counted;
 use crate::item::{Group, Item, Process, Range, Word};
@@ -39,7 +39,7 @@ pub struct Four {
 
 // A word that has to be there.
 fn read_word(word: Option<&str>) -> Result<u32, Fault>
-    ensures { result ≡ word_of (option_map bytes_of word.entry) }
+    ensures { result ≡ needed_word (option_map bytes_of word.entry) }
 {
     figure(word.ok_or(Fault::new(Reason::Short))?, Radix::Decimal)
 }

@@ -5,7 +5,7 @@ use Rattle.sources.proofs.Newer.{text_cons, text_over}
 use Rattle.sources.specs.declared.fault.Fault.{Fault}
 use Rattle.sources.specs.declared.kind.Break.TheVariants.{Refuses}
 use Rattle.sources.specs.Texts.{Text}
-use Rattle.sources.specs.Lines.{lines_of, text_of, long, walk, ending, course, leaves, reading, max_line, max_text}
+use Rattle.sources.specs.Lines.{lines_of, text_of, long, walk, at_end, course, leaves, reading, max_line, max_text}
 use Rattle.sources.specs.Faults.{at_line, and_then}
 use Rattle.sources.specs.Utf8.{is_utf8}
 use Rattle.kinds.specs.declared.sort.Key.{Key}
@@ -18,7 +18,7 @@ use Rattle.kinds.specs.declared.measure.Tally.{Tally}
 use Rattle.kinds.specs.declared.measure.State.{State}
 use Rattle.kinds.specs.declared.measure.State.TheVariants.{NoMapping, InMapping}
 use Rattle.kinds.specs.Sorts.{sort_of}
-use Rattle.kinds.specs.Measure.{none, first, closed_with, next, fault_of, rules_at, max_total, measure_rules, fresh}
+use Rattle.kinds.specs.Measure.{no_figures, first, closed_with, next, fault_of, rules_at, max_total, measure_rules, fresh}
 use Rattle.kinds.specs.Sums.{opens, sound, mappings_of, sum_over, total, figure, orderly, closed_of, Measured, Measures}
 use Rattle.sources.proofs.Walks.{ends, judged-ok, judged-on}
 use Rattle.kinds.proofs.Steps.{rest, plus, total-opens, count_opens, rest_over, count_over, figure-none, sum_some, sum_fits, Stepped, step_sound, step_fine, some_byte}
@@ -27,7 +27,7 @@ total-over : (k : Key) → total k [] ≡ 0
 unfolding mappings_of sum_over
 total-over k = refl
 
-closed_over : closed_of [] ≡ record { mappings = 0; totals = none }
+closed_over : closed_of [] ≡ record { mappings = 0; totals = no_figures }
 unfolding mappings_of sum_over
 closed_over = refl
 
@@ -80,7 +80,7 @@ shut_ok cap most j s t (Ok y) c q h e =
     let u = sum_some cap t.totals t.last y q in
     record { good = refl; fits = omega (arith, text_over); light = λ k. omega (arith, u.0 k, rest_over k (figure k t.last)); is = cc (u.1, reached_over t) }
 
-end_ok : (cap most j s : ℕ) (t : Tally) (broken : Bool) (c : Closed) → s ≤ most → ends (rules_at cap) (ending Refuses broken j, InMapping t, []) ≡ Ok c → (broken ≡ false) × Went cap most s t [] c
+end_ok : (cap most j s : ℕ) (t : Tally) (broken : Bool) (c : Closed) → s ≤ most → ends (rules_at cap) (at_end Refuses broken j, InMapping t, []) ≡ Ok c → (broken ≡ false) × Went cap most s t [] c
 end_ok cap most j s t true c h e = cc
 end_ok cap most j s t false c h e = (refl, shut_ok cap most j s t (closed_with cap t) c refl h e)
 
@@ -129,12 +129,12 @@ first_of (Mapping (Ok u)) a b = refl
 first_of (Mapping (Err g)) a b = cc
 first_of (Attribute r) a b = cc
 
-over_ok : (cap most : ℕ) (broken : Bool) (c : Closed) → ends (rules_at cap) (ending Refuses broken 0, NoMapping, []) ≡ Ok c → (broken ≡ false) × Measured cap most [] c
+over_ok : (cap most : ℕ) (broken : Bool) (c : Closed) → ends (rules_at cap) (at_end Refuses broken 0, NoMapping, []) ≡ Ok c → (broken ≡ false) × Measured cap most [] c
 unfolding orderly
 over_ok cap most true c e = cc
 over_ok cap most false c e = (refl, record { begins = refl; good = refl; fits = omega (arith, text_over); light = λ k. omega (arith, total-over k); is = cc closed_over })
 
-first_sum : (k : Key) (l : List ℕ) (ls : List (List ℕ)) → opens (sort_of l) ≡ true → figure k none + rest k (figure k none) ls ≡ total k (l ∷ ls)
+first_sum : (k : Key) (l : List ℕ) (ls : List (List ℕ)) → opens (sort_of l) ≡ true → figure k no_figures + rest k (figure k no_figures) ls ≡ total k (l ∷ ls)
 first_sum k l ls e = rw (figure-none k) (omega (arith, total-opens k l ls e))
 
 first_closed : (l : List ℕ) (ls : List (List ℕ)) → opens (sort_of l) ≡ true → reached first ls ≡ closed_of (l ∷ ls)

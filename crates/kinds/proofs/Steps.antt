@@ -13,7 +13,7 @@ use Rattle.kinds.specs.declared.measure.Tally.{Tally}
 use Rattle.kinds.specs.declared.measure.State.{State}
 use Rattle.kinds.specs.declared.measure.State.TheVariants.{InMapping}
 use Rattle.kinds.specs.Sorts.{sort_of}
-use Rattle.kinds.specs.Measure.{none, within, sum_of, with_value, set_to, more, closed_with, opened, headed, next, fault_of}
+use Rattle.kinds.specs.Measure.{no_figures, capped, sum_of, with_value, set_to, more, closed_with, opened, headed, next, fault_of}
 use Rattle.kinds.specs.Sums.{opens, sound, body, mappings_of, same, newest, last_of, sum_over, total, figure}
 
 -- what a key comes to, from a value in the mapping that is open
@@ -59,8 +59,8 @@ by_key P a b c SwapPss = c
 pub figure-plus : (k : Key) (a b : Figures) → figure k (plus a b) ≡ figure k a + figure k b
 figure-plus k a b = by_key (λ k. figure k (plus a b) ≡ figure k a + figure k b) refl refl refl k
 
-pub figure-none : (k : Key) → figure k none ≡ 0
-figure-none = by_key (λ k. figure k none ≡ 0) refl refl refl
+pub figure-none : (k : Key) → figure k no_figures ≡ 0
+figure-none = by_key (λ k. figure k no_figures ≡ 0) refl refl refl
 
 -- a figure with a new value of the key j
 figure-with : (k j : Key) (v : ℕ) (f : Figures) → figure k (with_value j v f) ≡ cond (same k j) v (figure k f)
@@ -68,10 +68,10 @@ figure-with k j v f =
     let P : Key → Key → Type 0 = λ k j. figure k (with_value j v f) ≡ cond (same k j) v (figure k f) in
     by_key (λ k. P k j) (by_key (P Rss) refl refl refl j) (by_key (P Pss) refl refl refl j) (by_key (P SwapPss) refl refl refl j) k
 
-within-then : {B : Type 0} (cap n : ℕ) (f : ℕ → Result B Fault) (x : B) → and_then (within cap n) f ≡ Ok x → (n ≤ cap) × (f n ≡ Ok x)
+within-then : {B : Type 0} (cap n : ℕ) (f : ℕ → Result B Fault) (x : B) → and_then (capped cap n) f ≡ Ok x → (n ≤ cap) × (f n ≡ Ok x)
 within-then {B} cap n f x e = grind (arith, nat_tests)
 
-within_on : {B : Type 0} (cap n : ℕ) (f : ℕ → Result B Fault) → n ≤ cap → and_then (within cap n) f ≡ f n
+within_on : {B : Type 0} (cap n : ℕ) (f : ℕ → Result B Fault) → n ≤ cap → and_then (capped cap n) f ≡ f n
 within_on {B} cap n f h = rw (le-ltb cap n h)
 
 pub sum_some : (cap : ℕ) (a b x : Figures) → sum_of cap a b ≡ Ok x → ((k : Key) → figure k a + figure k b ≤ cap) × (x ≡ plus a b)
@@ -86,7 +86,7 @@ sum_fits cap a b h = within_on cap (a.rss + b.rss) _ (h Rss) ∙ within_on cap (
 
 -- the mapping that opens after totals u
 abbrev opened_at : Tally → Figures → Result Tally Fault
-opened_at t u = Ok (record { mappings = more t.mappings; totals = u; last = none })
+opened_at t u = Ok (record { mappings = more t.mappings; totals = u; last = no_figures })
 
 -- A line leads from a mapping that is open to one that is open, and the sums stay.
 pub record Stepped (l : List ℕ) (t : Tally) (m : State) : Type 0 where
@@ -110,13 +110,13 @@ step_headed cap l t (Ok y) e h q f =
     let w : opens (sort_of l) ≡ true = ap opens e in
     let m : more t.mappings ≡ t.mappings + 1 = rw (lt-ltb t.mappings 4294967295 (omega arith)) in
     record {
-      to = record { mappings = more t.mappings; totals = y; last = none };
+      to = record { mappings = more t.mappings; totals = y; last = no_figures };
       goes = refl;
       bound = omega (arith, m, b);
       count = λ ls. omega (arith, m, count_opens l ls w);
       sums = λ k ls.
           let a : figure k y ≡ figure k t.totals + figure k t.last = ap (figure k) s.1 ∙ figure-plus k t.totals t.last in
-          let c : rest k (figure k none) ls ≡ rest k 0 ls = rw (figure-none k) in
+          let c : rest k (figure k no_figures) ls ≡ rest k 0 ls = rw (figure-none k) in
           omega (arith, a, c, rest-opens k (figure k t.last) l ls w);
     }
 

@@ -21,19 +21,19 @@ abbrev pub fresh : State
 fresh = NoMapping
 
 -- No figure yet.
-abbrev pub none : Figures
-none = record { rss = 0; pss = 0; swap_pss = 0 }
+abbrev pub no_figures : Figures
+no_figures = record { rss = 0; pss = 0; swap_pss = 0 }
 
 -- A number that keeps the cap; one above it is refused.
-abbrev pub within : ℕ → ℕ → Result ℕ Fault
-within cap n = cond (nat_lt cap n) (Err (fault Heavy)) (Ok n)
+abbrev pub capped : ℕ → ℕ → Result ℕ Fault
+capped cap n = cond (nat_lt cap n) (Err (fault Heavy)) (Ok n)
 
 -- The sums of two figures of each key, where each keeps the cap.
 abbrev pub sum_of : ℕ → Figures → Figures → Result Figures Fault
 sum_of cap a b =
-    and_then (within cap (a.rss + b.rss)) (λ r.
-    and_then (within cap (a.pss + b.pss)) (λ p.
-    and_then (within cap (a.swap_pss + b.swap_pss)) (λ s. Ok (record { rss = r; pss = p; swap_pss = s }))))
+    and_then (capped cap (a.rss + b.rss)) (λ r.
+    and_then (capped cap (a.pss + b.pss)) (λ p.
+    and_then (capped cap (a.swap_pss + b.swap_pss)) (λ s. Ok (record { rss = r; pss = p; swap_pss = s }))))
 
 -- The figures with a new value v of a key.
 abbrev pub with_value : Key → ℕ → Figures → Figures
@@ -51,7 +51,7 @@ more n = cond (nat_lt n 4294967295) (n + 1) n
 
 -- The first mapping is open, and none before it.
 abbrev pub first : Tally
-first = record { mappings = 1; totals = none; last = none }
+first = record { mappings = 1; totals = no_figures; last = no_figures }
 
 -- The totals once the open mapping is closed.
 abbrev pub closed_with : ℕ → Tally → Result Figures Fault
@@ -59,7 +59,7 @@ closed_with cap t = sum_of cap t.totals t.last
 
 -- The open mapping is closed, and another open.
 abbrev pub opened : ℕ → Tally → Result Tally Fault
-opened cap t = and_then (closed_with cap t) (λ u. Ok (record { mappings = more t.mappings; totals = u; last = none }))
+opened cap t = and_then (closed_with cap t) (λ u. Ok (record { mappings = more t.mappings; totals = u; last = no_figures }))
 
 -- After a mapping line, good or bad: the tally with its mapping, where the totals keep the cap.
 abbrev pub headed : Result Tally Fault → Result (Unit {0}) Fault → State
@@ -86,7 +86,7 @@ fault_of (Refused f) = Some f
 
 -- Closing a measure closes its last mapping.
 abbrev pub end_of : ℕ → State → Result Closed Fault
-end_of cap NoMapping = Ok (record { mappings = 0; totals = none })
+end_of cap NoMapping = Ok (record { mappings = 0; totals = no_figures })
 end_of cap (InMapping t) = and_then (closed_with cap t) (λ u. Ok (record { mappings = t.mappings; totals = u }))
 end_of cap (Refused f) = Err f
 

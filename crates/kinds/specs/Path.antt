@@ -59,8 +59,8 @@ abbrev pub eight : List ℕ → Option ℤ
 eight ds = cond (length ds == 8 && not (slice_index ds 0 == 43)) (option_map (to_z w32) (result_ok (unsigned 32 Hexadecimal ds))) None
 
 -- The key of a shared memory segment: eight digits that end the path or stand before a last " (deleted)".
-abbrev pub key_of : List ℕ → Option ℤ
-key_of bs = case_of (past (codes "/SYSV") bs) None (λ rest. eight (unwrap_or (shorn (codes " (deleted)") rest) rest))
+abbrev pub segment_key : List ℕ → Option ℤ
+segment_key bs = case_of (past (codes "/SYSV") bs) None (λ rest. eight (unwrap_or (shorn (codes " (deleted)") rest) rest))
 
 -- The name of a file, which keeps white space at its end.
 abbrev pub file_of : List ℕ → List ℕ
@@ -70,7 +70,7 @@ file_of bs = up_to 10 (trim_start bs)
 abbrev pub named_of : List ℕ → List ℕ → Result Named Fault
 named_of name bs =
     case_of (past (codes "[stack:") name)
-    (case_of (bracketed name) (case_of (key_of name) (Ok (path (file_of bs))) (λ z. Ok (vsys z))) (λ n. Ok (other n)))
+    (case_of (bracketed name) (case_of (segment_key name) (Ok (path (file_of bs))) (λ z. Ok (vsys z))) (λ n. Ok (other n)))
     thread_of
 
 -- A name, of the path `bs`.

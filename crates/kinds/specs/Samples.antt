@@ -6,7 +6,7 @@ use Rattle.sources.specs.declared.reason.Reason.TheVariants.{Orphan, Figure, Tor
 use Rattle.sources.specs.Faults.{fault, refused}
 use Rattle.sources.specs.Editions.{Edition}
 use Rattle.sources.specs.Lines.{lines_of}
-use Rattle.fields.specs.Counted.{text_of}
+use Rattle.fields.specs.Counted.{kept_text}
 use Rattle.fields.specs.Slots.{kept, after_entry}
 use Rattle.status.specs.declared.record.StatusSlots.{StatusSlots}
 use Rattle.status.specs.Line.{entry_of as entry_of_status}
@@ -51,7 +51,7 @@ Samples =
     × (path_of (codes "[stack:12") ≡ Err (fault Torn))
     × (measured (text two_mappings false) ≡ Ok (record { mappings = 2; totals = record { rss = 8192; pss = 7168; swap_pss = 2048 } }))
     × Edition is_foreign (has_begun fresh) (lines_of two_mappings) (lines_of newer)
-    × ((said (codes "Name: a:b")).ids.name ≡ Some (Ok (text_of (codes "a:b"))))
-    × ((said (codes "State: a:b")).ids.state ≡ Some (Ok (text_of (codes "a"))))
+    × ((said (codes "Name: a:b")).ids.name ≡ Some (Ok (kept_text (codes "a:b"))))
+    × ((said (codes "State: a:b")).ids.state ≡ Some (Ok (kept_text (codes "a"))))
     × ((said (codes "VmRSS: 1 kB")).memory.vmrss ≡ Some (Ok 1))
     × ((said (codes "VmRSS: 1 kB2")).memory.vmrss ≡ Some (Err (fault Figure)))

@@ -14,13 +14,13 @@ use Rattle.kinds.specs.Attribute.{entry_of, Entry}
 use Rattle.kinds.specs.Mapping.{mapping_of}
 
 -- The measured key of a name.
-abbrev pub key_of : List ℕ → Option Key
-key_of k = cond (bytes_eq k (codes "Rss")) (Some Rss) (cond (bytes_eq k (codes "Pss")) (Some Pss) (cond (bytes_eq k (codes "SwapPss")) (Some SwapPss) None))
+abbrev pub measured_key : List ℕ → Option Key
+measured_key k = cond (bytes_eq k (codes "Rss")) (Some Rss) (cond (bytes_eq k (codes "Pss")) (Some Pss) (cond (bytes_eq k (codes "SwapPss")) (Some SwapPss) None))
 
 -- What an attribute sets: a measured key, or none.
 abbrev pub set_by : Option Entry → Option Setting
 set_by None = None
-set_by (Some e) = option_map (λ k. record { key = k; amount = e.amount }) (key_of e.key)
+set_by (Some e) = option_map (λ k. record { key = k; amount = e.amount }) (measured_key e.key)
 
 -- What an attribute line sets, where it is good; "VmFlags" sets no key.
 abbrev pub setting_of : List ℕ → Result (Option Setting) Fault

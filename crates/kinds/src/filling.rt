@@ -4,7 +4,7 @@ ghost use Rattle.sources.specs.declared.fault.Fault.{Fault as FaultOf};
 ghost use Rattle.sources.specs.Faults.{and_then};
 ghost use Rattle.sources.specs.Lines.{reading};
 ghost use Rattle.sources.specs.Rules.{verdict as verdict_of};
-ghost use Rattle.fields.specs.LastLines.{told, recorded, into, ToldByLastLines, SameRecordInEditions};
+ghost use Rattle.fields.specs.LastLines.{told, left_in_record, into, ToldByLastLines, SameRecordInEditions};
 ghost use Rattle.fields.specs.Slots.{after_entry};
 ghost use Rattle.fields.specs.Slotted.{slot_rules, has_begun, refusal_stays, foreign_aside, begins_with_any};
 
@@ -85,7 +85,7 @@ pub fn put_record<R: Drop>(
     record: &mut R,
 ) -> Result<(), Refusal>
     ensures answer { result ≡ told read }
-    ensures holds { «record».new ≡ recorded blank read }
+    ensures holds { «record».new ≡ left_in_record blank read }
 {
     match read {
         Ok(v) => {

@@ -1,6 +1,6 @@
 ghost use Rattle.std.specs.Prelude.{◌≡◌, ◌+◌, refl};
 ghost use Rattle.sources.specs.declared.kind.Break.TheVariants.{Refuses};
-ghost use Rattle.kinds.specs.Measure.{fresh, next, measure_rules, has_begun, is_foreign, within, sum_of, set_to, closed_with, opened};
+ghost use Rattle.kinds.specs.Measure.{fresh, next, measure_rules, has_begun, is_foreign, capped, sum_of, set_to, closed_with, opened};
 ghost use Rattle.kinds.specs.MeasureLaws.{refusal_stays, foreign_aside, begins_with_mapping};
 ghost use Rattle.kinds.specs.Measured.{recording_of, join_of};
 ghost use Rattle.kinds.specs.Sums.{Measures, SameInEditions, AddsOverJoins};
@@ -72,7 +72,7 @@ impl Closed {
 
 // The sum of two figures; one above `cap` is too heavy.
 fn sum(a: u64, b: u64, cap: u64) -> Result<u64, Fault>
-    ensures { result ≡ within cap (a + b) }
+    ensures { result ≡ capped cap (a + b) }
 {
     a.checked_add(b)
         .filter(|c| *c <= cap)

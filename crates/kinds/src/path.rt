@@ -1,6 +1,6 @@
 ghost use Rattle.std.specs.Prelude.{◌≡◌};
 ghost use Rattle.std.specs.Option.{option_map};
-ghost use Rattle.kinds.specs.Path.{bracketed as bracketed_of, eight as eight_of, file_of, key_of, named_of, path_in, path_of, seen, seen_in, thread_of};
+ghost use Rattle.kinds.specs.Path.{bracketed as bracketed_of, eight as eight_of, file_of, segment_key, named_of, path_in, path_of, seen, seen_in, thread_of};
 ghost use Rattle.sources.specs.Pieces.{bytes_of};
 
 use sources::fault::{Fault, Refusal, at_line};
@@ -55,7 +55,7 @@ fn eight(digits: &str) -> Option<i32>
 
 // The key of a shared memory segment.
 fn read_key(name: &str) -> Option<i32>
-    ensures { result ≡ key_of name.now }
+    ensures { result ≡ segment_key name.now }
 {
     let rest = past(name, "/SYSV")?;
     eight(shorn(rest, " (deleted)").unwrap_or(rest))

@@ -1,5 +1,5 @@
 ghost use Rattle.std.specs.Prelude.{◌≡◌};
-ghost use Rattle.kinds.specs.Sorts.{sort_of, setting_of, key_of, capital};
+ghost use Rattle.kinds.specs.Sorts.{sort_of, setting_of, measured_key, capital};
 
 use crate::attribute::Attribute;
 use crate::mapping::MemoryMap;
@@ -30,7 +30,7 @@ pub enum Sort {
 
 // The measured key of a name. Another name is no error, so this is no TryFrom.
 fn key_of(name: &str) -> Option<Key>
-    ensures { result ≡ key_of name.now }
+    ensures { result ≡ measured_key name.now }
 {
     match name {
         "Rss" => Some(Key::Rss),

@@ -8,7 +8,7 @@ use Rattle.sources.specs.Faults.{fault}
 use Rattle.sources.specs.White.{trim, white_words}
 use Rattle.limits.specs.Entries.{Entry, entry_of, is_foreign, is_heading, name_length, place_in}
 use Rattle.limits.specs.Words.{word_at}
-use Rattle.limits.specs.Record.{fresh, fill_limits}
+use Rattle.limits.specs.Record.{fresh_slots, fill_limits}
 
 -- a heading, or n words with a name of no field
 no_entry : (heading : Bool) (n : ℕ) (place : Option ℕ) (entry : ℕ → Entry) → (heading || (nat_le 3 n && is_none place)) ≡ true
@@ -24,8 +24,8 @@ foreign_empty line f =
     no_entry (is_heading t) (length (white_words t)) (place_in t) (λ place. (place + 1, (word_at (name_length t) (white_words t), word_at (name_length t + 1) (white_words t)))) f
 
 -- No entry leaves the slots as they were before any line, and one more entry is put before the others.
-pub no_entries : fill_limits [] fresh ≡ fresh
+pub no_entries : fill_limits [] fresh_slots ≡ fresh_slots
 no_entries = refl
 
-pub one_entry_more : (e : Entry) (es : List Entry) → fill_limits (e ∷ []) (fill_limits es fresh) ≡ fill_limits (e ∷ es) fresh
+pub one_entry_more : (e : Entry) (es : List Entry) → fill_limits (e ∷ []) (fill_limits es fresh_slots) ≡ fill_limits (e ∷ es) fresh_slots
 one_entry_more e es = refl

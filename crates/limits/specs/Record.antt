@@ -20,8 +20,8 @@ abbrev pub limit : ℕ → List Limit → Limit
 limit number ls = slice_index_or ls (number - 1) nothing
 
 -- The record of these, each field with its number.
-abbrev pub limits_of : List Limit → Limits
-limits_of ls = record {
+abbrev pub record_of : List Limit → Limits
+record_of ls = record {
   max_cpu_time = limit 1 ls;
   max_file_size = limit 2 ls;
   max_data_size = limit 3 ls;
@@ -42,11 +42,11 @@ limits_of ls = record {
 
 -- A record in which every limit is 0.
 abbrev pub blank_limits : Limits
-blank_limits = limits_of (replicate 16 nothing)
+blank_limits = record_of (replicate 16 nothing)
 
 -- Slots before any line.
-abbrev pub fresh : LimitsSlots
-fresh = record { slots = replicate 16 None }
+abbrev pub fresh_slots : LimitsSlots
+fresh_slots = record { slots = replicate 16 None }
 
 -- The slots, numbered from 1 on, after entries with the last first.
 abbrev pub fill_limits : List Entry → LimitsSlots → LimitsSlots
@@ -64,4 +64,4 @@ judged_from number (suc n) s =
 
 -- Closing.
 abbrev pub judged_limits : LimitsSlots → Result Limits Fault
-judged_limits s = and_then (judged_from 1 16 s) (λ ls. Ok (limits_of ls))
+judged_limits s = and_then (judged_from 1 16 s) (λ ls. Ok (record_of ls))

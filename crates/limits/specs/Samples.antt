@@ -5,7 +5,7 @@ use Rattle.sources.specs.declared.reason.Reason.TheVariants.{Absent, Figure, Sho
 use Rattle.sources.specs.Faults.{fault}
 use Rattle.limits.specs.declared.limit.LimitValue.TheVariants.{Unlimited, Value}
 use Rattle.limits.specs.Entries.{Entry, entry_of, is_foreign}
-use Rattle.limits.specs.Record.{fresh, judged_limits, fill_limits}
+use Rattle.limits.specs.Record.{fresh_slots, judged_limits, fill_limits}
 use Rattle.limits.specs.Values.{limit_of}
 
 -- What a line says of the field k.
@@ -28,5 +28,5 @@ Samples =
     × (limit_of (codes "18446744073709551615") (codes "unlimited") ≡ Ok (record { soft_limit = Value 18446744073709551615; hard_limit = Unlimited }))
     × (limit_of (codes "18446744073709551616") (codes "x") ≡ Err (fault Figure))
     × (limit_of (codes "Unlimited") (codes "0") ≡ Err (fault Figure))
-    × (judged_limits fresh ≡ Err (record { reason = Absent; field = 1 }))
-    × (judged_limits (fill_limits ((2, (codes "1", codes "-1")) ∷ (1, (codes "1", codes "2")) ∷ []) fresh) ≡ Err (record { reason = Figure; field = 2 }))
+    × (judged_limits fresh_slots ≡ Err (record { reason = Absent; field = 1 }))
+    × (judged_limits (fill_limits ((2, (codes "1", codes "-1")) ∷ (1, (codes "1", codes "2")) ∷ []) fresh_slots) ≡ Err (record { reason = Figure; field = 2 }))

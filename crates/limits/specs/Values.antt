@@ -10,12 +10,12 @@ use Rattle.limits.specs.declared.limit.LimitValue.TheVariants.{Unlimited, Value}
 use Rattle.limits.specs.declared.limit.Limit.{Limit}
 
 -- A number of 64 bits.
-abbrev pub bound_of : List ℕ → Result LimitValue Fault
-bound_of w = and_then (as_fault (unsigned 64 Decimal w)) (λ n. Ok (Value n))
+abbrev pub number_limit : List ℕ → Result LimitValue Fault
+number_limit w = and_then (as_fault (unsigned 64 Decimal w)) (λ n. Ok (Value n))
 
 -- The word "unlimited", or a number.
 abbrev pub value_of : List ℕ → Result LimitValue Fault
-value_of w = cond (bytes_eq w (codes "unlimited")) (Ok Unlimited) (bound_of w)
+value_of w = cond (bytes_eq w (codes "unlimited")) (Ok Unlimited) (number_limit w)
 
 -- The soft limit is judged first.
 abbrev pub limit_of : List ℕ → List ℕ → Result Limit Fault

@@ -3,7 +3,7 @@ ghost use Rattle.fields.specs.Slots.{needed};
 ghost use Rattle.sources.specs.declared.kind.Break.TheVariants.{Ends};
 ghost use Rattle.limits.specs.Entries.{Entry as EntryOf, entry_of, is_foreign};
 ghost use Rattle.limits.specs.LimitsLaws.{foreign_empty, no_entries, one_entry_more};
-ghost use Rattle.limits.specs.Record.{fresh, fill_limits, judged_limits, blank_limits};
+ghost use Rattle.limits.specs.Record.{fresh_slots, fill_limits, judged_limits, blank_limits};
 
 use crate::limit::Limit;
 use crate::line::Setting;
@@ -47,7 +47,7 @@ impl Slots for LimitsSlots {
 
     ghost foreign = { is_foreign };
 
-    ghost fresh = { fresh };
+    ghost fresh_slots = { fresh_slots };
 
     ghost blank = { blank_limits };
 

@@ -1,5 +1,5 @@
-ghost use Rattle.std.specs.Prelude.{◌≡◌, ◌≤◌, ◌^◌};
-ghost use Rattle.packing.specs.Places.{charge_of, learnt, news_of, view_of};
+ghost use Rattle.std.specs.Prelude.{◌≡◌, ◌≤◌};
+ghost use Rattle.packing.specs.Places.{charge_of, learnt, max_charge, news_of, view_of};
 
 use kinds::measure::{Closed, Figures};
 use limits::limit::LimitValue;
@@ -64,14 +64,14 @@ impl News {
 impl Place {
     // What the job is charged: its Pss, its SwapPss and its headroom.
     pub(crate) fn charge(&self) -> u64
-        requires { charge_of self.now ≤ 2 ^ 56 }
+        requires { charge_of self.now ≤ max_charge }
         ensures { result ≡ charge_of self.now }
     {
         self.totals.pss + self.totals.swap_pss + self.headroom
     }
 
     pub(crate) fn view(&self) -> View
-        requires { charge_of self.now ≤ 2 ^ 56 }
+        requires { charge_of self.now ≤ max_charge }
         ensures { result ≡ view_of self.now }
     {
         View {

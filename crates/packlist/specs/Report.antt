@@ -19,11 +19,11 @@ abbrev pub totals_text : ℕ → Figures → List ℕ
 totals_text mappings t = codes "mappings " ++ (decimal mappings ++ (codes " rss " ++ (decimal t.rss ++ (codes " pss " ++ (decimal t.pss ++ (codes " swappss " ++ decimal t.swap_pss))))))
 
 -- A figure behind its word, where it is not 0.
-abbrev pub told : List ℕ → ℕ → List ℕ
-told word n = cond (nat_lt 0 n) (word ++ decimal n) []
+abbrev pub figure_if_any : List ℕ → ℕ → List ℕ
+figure_if_any word n = cond (nat_lt 0 n) (word ++ decimal n) []
 
 abbrev pub refusal_text : Refusal → List ℕ
-refusal_text f = codes "refused " ++ (decimal (number_of f.reason) ++ (codes " " ++ (word_of f.reason ++ (told (codes " line ") f.line ++ told (codes " field ") f.field))))
+refusal_text f = codes "refused " ++ (decimal (number_of f.reason) ++ (codes " " ++ (word_of f.reason ++ (figure_if_any (codes " line ") f.line ++ figure_if_any (codes " field ") f.field))))
 
 abbrev pub limit_text : LimitValue → List ℕ
 limit_text Unlimited = codes "unlimited"

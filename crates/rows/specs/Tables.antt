@@ -55,15 +55,15 @@ abbrev pub valued : Entry → Row → Tables → Result Tables Fault
 valued e row t = case_of (spot e.key row.first (used t.entries)) (entered e row t) (λ i. Ok (record t { entries = written i e t.entries }))
 
 -- What an attribute line makes of the tables, whose last row is `row`.
-abbrev pub told : Saying → Row → Tables → Result Tables Fault
-told Nothing row t = Ok t
-told (Flags bits) row t = Ok (renewed (record row { flags = bits }) t)
-told (Value e) row t = valued e row t
+abbrev pub after_saying : Saying → Row → Tables → Result Tables Fault
+after_saying Nothing row t = Ok t
+after_saying (Flags bits) row t = Ok (renewed (record row { flags = bits }) t)
+after_saying (Value e) row t = valued e row t
 
 -- What a line of a sort makes of them: an attribute's line is of the last row.
 abbrev pub after_sort : Sort → Tables → Result Tables Fault
 after_sort (Mapping r) t = and_then r (λ row. opened row t)
-after_sort (Attribute a) t = and_then (ok_or (last (used t.rows)) (fault Orphan)) (λ row. and_then a (λ s. told s row t))
+after_sort (Attribute a) t = and_then (ok_or (last (used t.rows)) (fault Orphan)) (λ row. and_then a (λ s. after_saying s row t))
 
 -- The tables after some lines, or the fault of a line that was refused.
 abbrev pub Filled : Type 0

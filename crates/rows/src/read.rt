@@ -3,7 +3,7 @@ ghost use Rattle.sources.specs.declared.kind.Break.TheVariants.{Refuses};
 ghost use Rattle.rows.specs.Accepted.{AcceptsReadable};
 ghost use Rattle.rows.specs.Blocks.{ToldByMappings};
 ghost use Rattle.rows.specs.Placed.{NamesAtPlaces};
-ghost use Rattle.rows.specs.Tables.{Filled, filled, tables, passed, valued, told, after_sort, fresh, row_rules, has_begun, is_foreign, refusal_stays, foreign_aside, begins_with_any, rows_of};
+ghost use Rattle.rows.specs.Tables.{Filled, filled, tables, passed, valued, after_saying, after_sort, fresh, row_rules, has_begun, is_foreign, refusal_stays, foreign_aside, begins_with_any, rows_of};
 
 use crate::entry::{Entry, spot};
 use crate::row::Row;
@@ -78,7 +78,7 @@ fn tell<R: Lent<Row>, E: Lent<Entry>>(
     row: Row,
     saying: Saying,
 ) -> Result<Marks, Fault>
-    ensures makes { filled (R.held rows.new) (E.held entries.new) result ≡ told saying row (tables (R.held rows.old) (E.held entries.old) marks) }
+    ensures makes { filled (R.held rows.new) (E.held entries.new) result ≡ after_saying saying row (tables (R.held rows.old) (E.held entries.old) marks) }
     ensures rows { R.same rows.old rows.new }
     ensures entries { E.same entries.old entries.new }
 {

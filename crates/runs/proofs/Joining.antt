@@ -9,8 +9,8 @@ use Rattle.runs.specs.declared.call.Call.{Call}
 use Rattle.runs.specs.declared.call.Call.TheVariants.{Measure, Used}
 use Rattle.runs.specs.declared.call.Answer.{Answer}
 use Rattle.runs.specs.declared.call.Answer.TheVariants.{Missing, Made}
-use Rattle.runs.specs.Run.{Desk, of_measure, served, answers}
-use Rattle.runs.specs.Joins.{made, JoinsAdd}
+use Rattle.runs.specs.Run.{Desk, made, of_measure, served, answers}
+use Rattle.runs.specs.Joins.{JoinsAdd}
 
 abbrev is_measure : Call Text → Bool
 is_measure (Measure t) = true
@@ -35,9 +35,9 @@ back (Ok d) c e = ap (λ (a : Answer). Ok (unmade c a)) e
 back (Err f) c e = absurd (let z : false ≡ true = ap is_made e in cc)
 
 pub joins : (d : Desk) (cs : List (Call Text)) → JoinsAdd cs (answers d cs)
-joins d cs i j k t u c e mi mj mk w ai aj =
-    let law = joins_add t u c e w (back (measured (text t false)) c (sym (measures d cs i (text t false) mi) ∙ ai)) (back (measured (text u false)) e (sym (measures d cs j (text u false) mj) ∙ aj)) in
-    let z = measures d cs k (text (t ++ u) false) mk in (
+joins d cs i j k t u c e h =
+    let law = joins_add t u c e h.ends (back (measured (text t false)) c (sym (measures d cs i (text t false) h.first.measures) ∙ h.first.makes)) (back (measured (text u false)) e (sym (measures d cs j (text u false) h.second.measures) ∙ h.second.makes)) in
+    let z = measures d cs k (text (t ++ u) false) h.join in (
       λ f ak. law.0 f (back (measured (text (t ++ u) false)) f (sym z ∙ ak)),
       λ keeps. z ∙ ap of_measure (law.1 keeps),
     )

@@ -28,7 +28,7 @@ use Rattle.runs.specs.declared.call.Call.TheVariants.{Measure, Admit, Remeasure,
 use Rattle.runs.specs.declared.call.Answer.{Answer}
 use Rattle.runs.specs.declared.call.Answer.TheVariants.{Total}
 use Rattle.runs.specs.Run.{Bench, Desk, kept, settled, charging, of_plain, served, answers, answers_of}
-use Rattle.runs.specs.Ledger.{Entry, weighs, owes, is_for, texts, recharged, told, UsedIsSum, IsAcceptedRemeasure, HoldsFrom, SumsHold}
+use Rattle.runs.specs.Ledger.{Entry, weighs, owes, is_for, texts, recharged, ledger_after, UsedIsSum, IsAcceptedRemeasure, HoldsFrom, SumsHold}
 use Rattle.runs.proofs.Spots.{found-first, sum-with_place, sum-with_news, sum-without}
 use Rattle.runs.proofs.Weights.{Weight, entry_by, place_by, only, anew, charges, ones, sum-released, sum-recharged, one_place, absent-nowhere, charges-used, ones-count}
 
@@ -229,8 +229,8 @@ module _ (limit : ℕ) (ts : List (List ℕ)) (s : List Entry) (l : Packing) (b 
 
 -- What a call leaves: the ledger is still what the places hold, and its sum grew to more than the limit only at an accepted remeasure.
 record Next (limit : ℕ) (ts : List (List ℕ)) (s : List Entry) (c : Call Text) (r : Answer × Desk) : Type 0 where
-  good : Good limit (texts ts c) (told ts s c r.0) r.1
-  crosses : sum_by owes s < sum_by owes (told ts s c r.0) → limit < sum_by owes (told ts s c r.0) → IsAcceptedRemeasure c r.0
+  good : Good limit (texts ts c) (ledger_after ts s c r.0) r.1
+  crosses : sum_by owes s < sum_by owes (ledger_after ts s c r.0) → limit < sum_by owes (ledger_after ts s c r.0) → IsAcceptedRemeasure c r.0
 
 -- a sum that does not grow
 calm : {A : Type 0} (limit x y : ℕ) → y ≤ x → x < y → limit < y → A
@@ -303,7 +303,7 @@ unfolding answers
 holds-from limit ts s d [] g = tt
 holds-from limit ts s d (c ∷ cs) g =
     let n = next limit ts s d c g in
-    let s' = told ts s c (served d c).0 in (
+    let s' = ledger_after ts s c (served d c).0 in (
       record { sums = sums limit ts s d c g; single = at-most-one limit (texts ts c) s' (served d c).1 n.good; crosses = n.crosses },
       holds-from limit (texts ts c) s' (served d c).1 cs n.good,
     )

@@ -22,7 +22,7 @@ use Rattle.status.specs.Record.{fill_slots, judged_slots, blank_status}
 use Rattle.limits.specs.declared.record.Limits.{Limits}
 use Rattle.limits.specs.Entries as limits
 use Rattle.limits.specs.LimitsLaws as limits_laws
-use Rattle.limits.specs.Record.{fill_limits, judged_limits, fresh, blank_limits}
+use Rattle.limits.specs.Record.{fill_limits, judged_limits, fresh_slots, blank_limits}
 use Rattle.packing.specs.declared.place.News.{News}
 use Rattle.packing.specs.declared.place.News.TheVariants as news
 use Rattle.packing.specs.Packed.{Packing}
@@ -32,10 +32,10 @@ use Rattle.runs.specs.declared.call.Call.{Call}
 use Rattle.runs.specs.declared.call.Answer.{Answer}
 use Rattle.runs.specs.declared.call.Answer.TheVariants.{Refused}
 use Rattle.runs.specs.Run.{Desk, of_measure, kept, of_plain, served, answers}
-use Rattle.runs.specs.Newer.{NewerText, Newer, same, measured as measured_newer, noted, bounded, Newers, bare, unnumbered}
+use Rattle.runs.specs.Newer.{NewerText, Newer, same, measured as measured_newer, noted, bounded, Newers, without_line, unnumbered}
 
 -- refusals that differ by their line
-same-bare : (f g : Refusal) → (f.reason ≡ g.reason) × (f.field ≡ g.field) → bare f ≡ bare g
+same-bare : (f g : Refusal) → (f.reason ≡ g.reason) × (f.field ≡ g.field) → without_line f ≡ without_line g
 same-bare f g e =
     ap (λ (r : Reason). record { reason = r; line = 0; field = f.field }) e.0
     ∙ ap (λ n. record { reason = g.reason; line = 0; field = n }) e.1
@@ -85,9 +85,9 @@ newer_note pid t u n =
 newer_bounds : (t u : Text) → NewerText limits.is_foreign true t u → Same (bounds_in t).0 (bounds_in u).0
 unfolding bounds_in
 newer_bounds t u n =
-    same-bounds (reading limits_text.limits_rules (Ok fresh) t).0 (reading limits_text.limits_rules (Ok fresh) u).0 _ _
-    (subst (λ b. Same (reading limits_text.limits_rules (Ok fresh) t).0 (reading limits_text.limits_rules (Ok fresh) (text u.bytes b)).0) (sym n.ending)
-    (newer limits_text.limits_rules slotted.has_begun limits.is_foreign (slotted.foreign_aside limits.entry_of fill_limits judged_limits Ends limits.is_foreign limits_laws.foreign_empty) (slotted.begins_with_any limits.entry_of fill_limits judged_limits Ends) (Ok fresh) t u.bytes refl n.edition n.fits))
+    same-bounds (reading limits_text.limits_rules (Ok fresh_slots) t).0 (reading limits_text.limits_rules (Ok fresh_slots) u).0 _ _
+    (subst (λ b. Same (reading limits_text.limits_rules (Ok fresh_slots) t).0 (reading limits_text.limits_rules (Ok fresh_slots) (text u.bytes b)).0) (sym n.ending)
+    (newer limits_text.limits_rules slotted.has_begun limits.is_foreign (slotted.foreign_aside limits.entry_of fill_limits judged_limits Ends limits.is_foreign limits_laws.foreign_empty) (slotted.begins_with_any limits.entry_of fill_limits judged_limits Ends) (Ok fresh_slots) t u.bytes refl n.edition n.fits))
 
 -- One call answers the same and leaves the same.
 newer_served : (d : Desk) (c e : Call Text) → Newer c e → (unnumbered (served d c).0 ≡ unnumbered (served d e).0) × ((served d c).1 ≡ (served d e).1)

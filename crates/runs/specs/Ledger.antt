@@ -41,11 +41,11 @@ abbrev pub recharged : ℤ → List ℕ → Entry → Entry
 recharged pid bytes e = cond (is_for pid e) (record { pid = e.pid; headroom = e.headroom; bytes = bytes }) e
 
 -- The ledger after a call, by its answer: a job is in from an accepted admit to the next accepted release.
-abbrev pub told : List (List ℕ) → List Entry → Call Text → Answer → List Entry
-told ts s (Admit pid headroom k) a = cond (accepted a) (record { pid = pid; headroom = headroom; bytes = get_or ts k [] } ∷ s) s
-told ts s (Remeasure pid k) a = cond (accepted a) (map (recharged pid (get_or ts k [])) s) s
-told ts s (Release pid) a = cond (accepted a) (filter (λ e. not (is_for pid e)) s) s
-told ts s _ a = s
+abbrev pub ledger_after : List (List ℕ) → List Entry → Call Text → Answer → List Entry
+ledger_after ts s (Admit pid headroom k) a = cond (accepted a) (record { pid = pid; headroom = headroom; bytes = get_or ts k [] } ∷ s) s
+ledger_after ts s (Remeasure pid k) a = cond (accepted a) (map (recharged pid (get_or ts k [])) s) s
+ledger_after ts s (Release pid) a = cond (accepted a) (filter (λ e. not (is_for pid e)) s) s
+ledger_after ts s _ a = s
 
 -- What used answers is the sum over the jobs that are in.
 abbrev pub UsedIsSum : List Entry → Call Text → Answer → Type 0
@@ -65,7 +65,7 @@ pub record Holds (limit : ℕ) (s s' : List Entry) (c : Call Text) (a : Answer) 
 -- It holds of each call of a row.
 abbrev pub HoldsFrom : ℕ → List (List ℕ) → List Entry → List (Call Text) → List Answer → Type 0
 HoldsFrom limit ts s [] [] = Unit {0}
-HoldsFrom limit ts s (c ∷ cs) (a ∷ more) = Holds limit s (told ts s c a) c a × HoldsFrom limit (texts ts c) (told ts s c a) cs more
+HoldsFrom limit ts s (c ∷ cs) (a ∷ more) = Holds limit s (ledger_after ts s c a) c a × HoldsFrom limit (texts ts c) (ledger_after ts s c a) cs more
 HoldsFrom limit ts s _ _ = ⊥
 
 -- The same from a list that is just made: no text is measured, and no job is in.

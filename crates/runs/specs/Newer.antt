@@ -33,12 +33,12 @@ Newers (c ∷ cs) (d ∷ ds) = Newer c d × Newers cs ds
 Newers _ _ = ⊥
 
 -- Line numbers aside.
-abbrev pub bare : Refusal → Refusal
-bare f = record { reason = f.reason; line = 0; field = f.field }
+abbrev pub without_line : Refusal → Refusal
+without_line f = record { reason = f.reason; line = 0; field = f.field }
 
 abbrev pub unnumbered : Answer → Answer
-unnumbered (Refused f) = Refused (bare f)
-unnumbered (Handed f mappings totals) = Handed (bare f) mappings totals
+unnumbered (Refused f) = Refused (without_line f)
+unnumbered (Handed f mappings totals) = Handed (without_line f) mappings totals
 unnumbered a = a
 
 -- Any row of calls that differs by newer editions answers the same, on another list of this limit.

@@ -32,8 +32,11 @@ abbrev pub Desk : Type 0
 Desk = Packing × Bench
 
 -- What a measure answers, and what it leaves in hand.
+abbrev pub made : Closed → Answer
+made c = Made c.mappings c.totals
+
 abbrev pub of_measure : Result Closed Refusal → Answer
-of_measure (Ok c) = Made c.mappings c.totals
+of_measure (Ok c) = made c
 of_measure (Err f) = Refused f
 
 abbrev pub kept : Result Closed Refusal → Option Closed

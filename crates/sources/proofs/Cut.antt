@@ -5,7 +5,7 @@ use Rattle.std.specs.Str.{IsCharBoundary}
 use Rattle.std.specs.List.{prefix_len}
 use Rattle.std.proofs.lemmas.List.Sums.{prefix_len-le-length}
 use Rattle.std.proofs.lemmas.Bool.Decides.{nat_tests}
-use Rattle.sources.specs.Words.{in_word, onto, join, ascii_words}
+use Rattle.sources.specs.Words.{in_word, onto, before_words, ascii_words}
 
 gap_passed : (bs : List ℕ) (n : ℕ) → n ≤ length bs → ((i : ℕ) → i < n → is_ascii_whitespace (get_or bs i 0) ≡ true) → ascii_words bs ≡ ascii_words (drop n bs)
 gap_passed bs zero l h = refl
@@ -14,7 +14,7 @@ gap_passed (b ∷ bs) (suc n) l h = rw (h 0 (omega arith)) (gap_passed bs n (ome
 
 -- a byte of a word before a byte c and others, of which n begin with more of the word
 one_more : (b c : ℕ) (cs : List ℕ) (n : ℕ) → (is_ascii_whitespace c ≡ true → n ≡ 0) → (is_ascii_whitespace c ≡ false → ascii_words (c ∷ cs) ≡ take n (c ∷ cs) ∷ ascii_words (drop n (c ∷ cs)))
-    → (w : Bool) → is_ascii_whitespace c ≡ w → join is_ascii_whitespace b (c ∷ cs) (ascii_words (c ∷ cs)) ≡ (b ∷ take n (c ∷ cs)) ∷ ascii_words (drop n (c ∷ cs))
+    → (w : Bool) → is_ascii_whitespace c ≡ w → before_words is_ascii_whitespace b (c ∷ cs) (ascii_words (c ∷ cs)) ≡ (b ∷ take n (c ∷ cs)) ∷ ascii_words (drop n (c ∷ cs))
 one_more b c cs n z h true w =
     ap (λ (t : Bool). cond t ((b ∷ []) ∷ ascii_words (c ∷ cs)) (onto b (ascii_words (c ∷ cs)))) w
     ∙ ap (λ (m : ℕ). (b ∷ take m (c ∷ cs)) ∷ ascii_words (drop m (c ∷ cs))) (sym (z w))
@@ -26,7 +26,7 @@ word_first : (b : ℕ) (bs : List ℕ) → is_ascii_whitespace b ≡ false → a
 word_first b [] e = rw e refl
 word_first b (c ∷ cs) e =
     let more = one_more b c cs (prefix_len in_word (c ∷ cs)) (λ w. rw w refl) (λ w. word_first c cs w) (is_ascii_whitespace c) refl in
-    ap (λ (t : Bool). cond t (ascii_words (c ∷ cs)) (join is_ascii_whitespace b (c ∷ cs) (ascii_words (c ∷ cs)))) e
+    ap (λ (t : Bool). cond t (ascii_words (c ∷ cs)) (before_words is_ascii_whitespace b (c ∷ cs) (ascii_words (c ∷ cs)))) e
     ∙ more
     ∙ sym (ap (λ (t : Bool). take (cond (not t) (1 + prefix_len in_word (c ∷ cs)) 0) (b ∷ c ∷ cs) ∷ ascii_words (drop (cond (not t) (1 + prefix_len in_word (c ∷ cs)) 0) (b ∷ c ∷ cs))) e
         ∙ ap (λ (m : ℕ). take m (b ∷ c ∷ cs) ∷ ascii_words (drop m (b ∷ c ∷ cs))) (one-add (prefix_len in_word (c ∷ cs))))

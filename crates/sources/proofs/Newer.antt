@@ -5,7 +5,7 @@ use Rattle.std.proofs.lemmas.Bool.{cases_Bool}
 use Rattle.sources.specs.declared.fault.Fault.{Fault}
 use Rattle.sources.specs.declared.fault.Refusal.{Refusal}
 use Rattle.sources.specs.Utf8.{is_utf8}
-use Rattle.sources.specs.Lines.{text_of, ended, full, long, lost, walk, judged, Outcome, broke, ending, on_fault, reading, course, closing, leaves}
+use Rattle.sources.specs.Lines.{text_of, ended, full, long, lost, walk, judged, Outcome, broke, at_end, on_fault, reading, course, closing, leaves}
 use Rattle.sources.specs.Faults.{at_line}
 use Rattle.sources.specs.Rules.{Rules, ForeignIsAside, BeginsWithALine}
 use Rattle.sources.specs.declared.kind.Break.{Break}
@@ -29,7 +29,7 @@ unfolding Alike
 like_broke Ends k k' = tt
 like_broke Refuses k k' = (refl, refl)
 
-like_ending : {M C : Type 0} (R : Rules M C) (broken : Bool) (k k' : ℕ) → Alike (ending R.on_break broken k) (ending R.on_break broken k')
+like_ending : {M C : Type 0} (R : Rules M C) (broken : Bool) (k k' : ℕ) → Alike (at_end R.on_break broken k) (at_end R.on_break broken k')
 unfolding Alike
 like_ending {M} {C} R true k k' = like_broke R.on_break k k'
 like_ending {M} {C} R false k k' = tt

@@ -11,7 +11,7 @@ use Rattle.std.proofs.lemmas.List.Elements.{All-tail}
 use Rattle.std.proofs.lemmas.Str.{NoCharPasses-byte}
 use Rattle.sources.specs.Pieces.{bytes_of}
 use Rattle.sources.specs.White.{nth}
-use Rattle.sources.specs.Words.{join, words_between, ascii_words}
+use Rattle.sources.specs.Words.{before_words, words_between, ascii_words}
 
 skip_gap : (white : ℕ → Bool) (gs cs : List ℕ) → NonePass (λ c. not (white c)) gs → words_between white (gs ++ cs) ≡ words_between white cs
 skip_gap white [] cs h = refl
@@ -26,7 +26,7 @@ abbrev pub Stops : (ℕ → Bool) → List ℕ → Type 0
 Stops white [] = Unit {0}
 Stops white (c ∷ cs) = white c ≡ true
 
-join-stops : (white : ℕ → Bool) (c : ℕ) (rs : List ℕ) → Stops white rs → (ws : List (List ℕ)) → join white c rs ws ≡ (c ∷ []) ∷ ws
+join-stops : (white : ℕ → Bool) (c : ℕ) (rs : List ℕ) → Stops white rs → (ws : List (List ℕ)) → before_words white c rs ws ≡ (c ∷ []) ∷ ws
 join-stops white c [] h ws = refl
 join-stops white c (r ∷ rs) h ws = rw h
 

@@ -53,9 +53,9 @@ abbrev pub broke : Break → ℕ → Result ℕ Refusal
 broke Ends taken = Ok taken
 broke Refuses taken = Err (refused reason.Broken (taken + 1))
 
--- What the ending of a text answers.
-abbrev pub ending : Break → Bool → ℕ → Result ℕ Refusal
-ending on_break broken taken = cond broken (broke on_break taken) (Ok taken)
+-- What the end of a text answers.
+abbrev pub at_end : Break → Bool → ℕ → Result ℕ Refusal
+at_end on_break broken taken = cond broken (broke on_break taken) (Ok taken)
 
 -- What a course over lines ends with: the number of lines taken or a refusal, the kind's meaning then, and the bytes that are left.
 abbrev pub Outcome : Type 0 → Type 0
@@ -81,7 +81,7 @@ judged {M} {C} room most R broken taken size m l left go =
 
 -- The course over lines.
 unfoldable pub walk : {M C : Type 0} → ℕ → ℕ → Rules M C → Bool → ℕ → ℕ → M → List (List ℕ) → Outcome M
-walk {M} {C} room most R broken taken size m [] = (ending R.on_break broken taken, m, [])
+walk {M} {C} room most R broken taken size m [] = (at_end R.on_break broken taken, m, [])
 walk {M} {C} room most R broken taken size m (l ∷ ls) =
     judged room most R broken taken size m l (text_of ls) (walk room most R broken (taken + 1) (size + length l) (R.next m l) ls)
 

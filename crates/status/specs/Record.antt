@@ -2,7 +2,7 @@
 use Rattle.std.specs.Prelude.{◌≡◌, List, [], pos, None, Result}
 use Rattle.sources.specs.declared.fault.Fault.{Fault}
 use Rattle.sources.specs.Faults.{and_then}
-use Rattle.fields.specs.Counted.{counted, text_of}
+use Rattle.fields.specs.Counted.{counted, kept_text}
 use Rattle.fields.specs.Slots.{Entry}
 use Rattle.status.specs.declared.record.StatusSlots.{StatusSlots}
 use Rattle.status.specs.declared.record.Status.{Status}
@@ -38,9 +38,9 @@ fill_slots es s = record {
 -- What a record holds after a refusal.
 abbrev pub blank_status : Status
 blank_status = record {
-  name = text_of [];
+  name = kept_text [];
   umask = None;
-  state = text_of [];
+  state = kept_text [];
   tgid = pos 0;
   ngid = None;
   pid = pos 0;

@@ -6,7 +6,7 @@ use Rattle.sources.specs.declared.fault.Fault.{Fault}
 use Rattle.sources.specs.declared.reason.Reason.TheVariants.{Short}
 use Rattle.sources.specs.Faults.{fault, and_then}
 use Rattle.support.specs.declared.syscall.Syscall.TheVariants.{Blocked}
-use Rattle.support.specs.Calls.{blocked_of, number_of, register_of, registers_of, read_first, six}
+use Rattle.support.specs.Calls.{blocked_of, call_number_of, register_of, registers_of, read_first, six}
 
 -- Those that were read before others, and then these.
 abbrev pub behind : List ℕ → Result (List ℕ) Fault → Result (List ℕ) Fault
@@ -51,6 +51,6 @@ turn_bad all xs i f ps qs lt h e =
     h ∙ ap (λ (n : ℕ). behind (take i xs) (registers_of n ps)) k ∙ next_bad (take i xs) (8 - (i + 1)) ps qs f e
 
 -- A process that is blocked, by its first piece and the pieces behind it.
-pub blocked_by : (ps : List (List ℕ)) → blocked_of ps ≡ and_then (read_first number_of ps).0 (λ number. and_then (registers_of 8 (read_first number_of ps).1) (λ rs. Ok (Blocked number (six rs) (slice_index rs 6) (slice_index rs 7))))
+pub blocked_by : (ps : List (List ℕ)) → blocked_of ps ≡ and_then (read_first call_number_of ps).0 (λ number. and_then (registers_of 8 (read_first call_number_of ps).1) (λ rs. Ok (Blocked number (six rs) (slice_index rs 6) (slice_index rs 7))))
 blocked_by [] = refl
 blocked_by (p ∷ ps) = refl

@@ -14,7 +14,7 @@ use Rattle.sources.specs.Number.{unsigned}
 use Rattle.sources.proofs.Ends.{shorn-some}
 use Rattle.sources.specs.Pieces.{case_of, cut, past, shorn}
 use Rattle.sources.specs.declared.reason.Reason.TheVariants.{Bracket}
-use Rattle.support.specs.Target.{Target, path, socket, net, pipe, anon_inode, memfd, other, unknown, seen, told, held_inode, inode_of, foreign_of, typed_of, bare_of, target_of}
+use Rattle.support.specs.Target.{Target, path, socket, net, pipe, anon_inode, memfd, other, unknown, seen, told, held_inode, inode_of, other_of, typed_of, bare_of, target_of}
 use Rattle.support.specs.Written.{HasInode, IsWritten, is_plain}
 
 -- The parts that a text is cut into are the text.
@@ -102,7 +102,7 @@ module _ (kind rest : List ℕ) where
       at (Ok n) h e = let i : make n ≡ t = cc in f n (inode_sound rest n h) i
       at (Err g) h e = cc
 
-  foreign_written : (o : Result ℕ Fault) → inode_of rest ≡ o → IsWritten (foreign_of kind rest o) (kind ++ (58 ∷ rest))
+  foreign_written : (o : Result ℕ Fault) → inode_of rest ≡ o → IsWritten (other_of kind rest o) (kind ++ (58 ∷ rest))
   foreign_written (Ok n) h = inode_written kind rest n (inode_sound rest n h)
   foreign_written (Err f) h = refl
 
@@ -118,7 +118,7 @@ module _ (kind rest : List ℕ) where
       pick kind (codes "net") _ _ t P (λ k f. named (codes "net") net (λ n text h. h) t k f) (λ e3.
       pick kind (codes "pipe") _ _ t P (λ k f. named (codes "pipe") pipe (λ n text h. h) t k f) (λ e4.
       pick kind (codes "anon_inode") _ _ t P (λ k f. let i : anon_inode rest ≡ t = cc in rw (← i, k) refl) (λ e5.
-      let i : foreign_of kind rest (inode_of rest) ≡ t = cc in rw (← i) (foreign_written (inode_of rest) refl)) e4) e3) e2) e1) e
+      let i : other_of kind rest (inode_of rest) ≡ t = cc in rw (← i) (foreign_written (inode_of rest) refl)) e4) e3) e2) e1) e
 
 bare_written : (bs : List ℕ) (t : Target) → bare_of bs ≡ Ok t → IsWritten t bs
 bare_written bs t e = at (cut 58 bs) refl e

@@ -37,8 +37,8 @@ abbrev pub register_of : List ℕ → Result ℕ Fault
 register_of p = as_fault (unsigned 64 Hexadecimal (unprefixed p))
 
 -- The number of a call: 64 bits in base 10, with a sign.
-abbrev pub number_of : List ℕ → Result ℤ Fault
-number_of p = as_fault (signed 63 Decimal p)
+abbrev pub call_number_of : List ℕ → Result ℤ Fault
+call_number_of p = as_fault (signed 63 Decimal p)
 
 -- What the first piece reads as, and the pieces behind it.
 abbrev pub read_first : {X : Type 0} → (List ℕ → Result X Fault) → List (List ℕ) → Result X Fault × List (List ℕ)
@@ -59,7 +59,7 @@ six rs = slice_index rs 0 ∷ slice_index rs 1 ∷ slice_index rs 2 ∷ slice_in
 abbrev pub blocked_of : List (List ℕ) → Result Syscall Fault
 blocked_of [] = Err (fault Short)
 blocked_of (p ∷ ps) =
-    and_then (number_of p) (λ number.
+    and_then (call_number_of p) (λ number.
     and_then (registers_of 8 ps) (λ rs.
     Ok (Blocked number (six rs) (slice_index rs 6) (slice_index rs 7))))
 

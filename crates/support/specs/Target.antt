@@ -51,9 +51,9 @@ abbrev pub inode_of : List ℕ → Result ℕ Fault
 inode_of rest = case_of (bracketed rest) (Err (fault Bracket)) held_inode
 
 -- Any other type: with an inode, or with what follows its colon.
-abbrev pub foreign_of : List ℕ → List ℕ → Result ℕ Fault → Target
-foreign_of kind rest (Ok n) = other kind n
-foreign_of kind rest (Err f) = unknown kind rest
+abbrev pub other_of : List ℕ → List ℕ → Result ℕ Fault → Target
+other_of kind rest (Ok n) = other kind n
+other_of kind rest (Err f) = unknown kind rest
 
 -- A type, and what follows its colon.
 abbrev pub typed_of : List ℕ → List ℕ → Result Target Fault
@@ -63,7 +63,7 @@ typed_of kind rest =
     (cond (bytes_eq kind (codes "net")) (and_then (inode_of rest) (λ n. Ok (net n)))
     (cond (bytes_eq kind (codes "pipe")) (and_then (inode_of rest) (λ n. Ok (pipe n)))
     (cond (bytes_eq kind (codes "anon_inode")) (Ok (anon_inode rest))
-    (Ok (foreign_of kind rest (inode_of rest)))))))
+    (Ok (other_of kind rest (inode_of rest)))))))
 
 -- A name that begins with no slash: its type ends at the first colon.
 abbrev pub bare_of : List ℕ → Result Target Fault

@@ -1,7 +1,7 @@
 ghost use Rattle.std.specs.Prelude.{◌≡◌};
 ghost use Rattle.std.specs.Option.{option_map};
 ghost use Rattle.sources.specs.Pieces.{bytes_of};
-ghost use Rattle.support.specs.Calls.{blocked_of, call_in, call_of, first_of, left, number_of, pieces_of, read_first, register_of, registers_of, unprefixed as unprefixed_of};
+ghost use Rattle.support.specs.Calls.{blocked_of, call_in, call_of, first_of, left, call_number_of, pieces_of, read_first, register_of, registers_of, unprefixed as unprefixed_of};
 
 use sources::fault::{Fault, Refusal, at_line};
 use sources::number::{FromStrRadix, Radix};
@@ -65,7 +65,7 @@ fn unprefixed(piece: &str) -> &str
 
 // The next piece, as the number of a call.
 fn number(pieces: &mut Pieces) -> Result<i64, Fault>
-    ensures { (result, left pieces.new) ≡ read_first number_of (left pieces.old) }
+    ensures { (result, left pieces.new) ≡ read_first call_number_of (left pieces.old) }
 {
     let piece = pieces.next().ok_or(Fault::new(Reason::Short))?;
     Ok(FromStrRadix::from_str_radix(piece, Radix::Decimal)?)

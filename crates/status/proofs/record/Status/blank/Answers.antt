@@ -1,6 +1,6 @@
 use Rattle.std.proofs.Common.{rules, ◌≡◌, ℕ, [], ap, ◌∙◌}
 use Rattle.fields.specs.declared.counted.Counted.{Counted}
-use Rattle.fields.specs.Counted.{counted, text_of}
+use Rattle.fields.specs.Counted.{counted, kept_text}
 use Rattle.status.proofs.Every.{sets_every_field}
 use Rattle.status.proofs.record.Status.blank.Goals as goal
 
@@ -9,8 +9,8 @@ empty : {n : ℕ} (l : Counted ℕ n) → (blank : ℕ) × (blank ≡ 0) × (l �
 empty {n} l h = h.2 ∙ ap (λ b. counted n b []) h.1
 
 -- that of a text, by a lemma, so that the proof below need not look at its 4096 cells
-empty-text : (l : Counted ℕ 4096) → (blank : ℕ) × (blank ≡ 0) × (l ≡ counted 4096 blank []) → l ≡ text_of []
-unfolding text_of
+empty-text : (l : Counted ℕ 4096) → (blank : ℕ) × (blank ≡ 0) × (l ≡ counted 4096 blank []) → l ≡ kept_text []
+unfolding kept_text
 empty-text l h = empty l h
 
 pub returns-clause-blank : goal.returns-clause-blank
