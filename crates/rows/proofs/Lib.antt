@@ -5,4 +5,6 @@ mod Walked
 mod Spelled
 mod Placed
 mod Blocked
+mod Said
+mod Latest
 mod Told

@@ -7,3 +7,4 @@ pub mod Sorts
 pub mod Tables
 pub mod Blocks
 pub mod Placed
+pub mod Latest
