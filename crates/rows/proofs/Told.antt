@@ -12,7 +12,7 @@ use Rattle.rows.specs.declared.read.Counts.{Counts}
 use Rattle.rows.specs.declared.row.Row.{Row}
 use Rattle.rows.specs.Cells.{Cells}
 use Rattle.rows.specs.Rows.{row_of}
-use Rattle.rows.specs.Tables.{Tables, Filled, after_line, counts, fresh, row_rules, settled, rows_of}
+use Rattle.rows.specs.Tables.{Tables, Filled, tables, unmarked, after_line, counts, fresh, row_rules, settled, rows_of}
 use Rattle.rows.specs.Blocks.{Block, with_rest, row_or_blank, entries_after, body, blocks_of, rows_in, entries_in, ToldByMappings}
 use Rattle.rows.proofs.Blocked.{tables_of, mapping_line, orphan, first_line, further_is, blocked}
 use Rattle.rows.proofs.Fulls.{full}
@@ -23,6 +23,9 @@ use Rattle.rows.specs.Accepted.{AcceptsReadable}
 use Rattle.rows.proofs.Accepted.{all_fit, accepted}
 use Rattle.sources.proofs.Walks.{ends}
 use Rattle.std.specs.Result.{is_ok}
+use Rattle.rows.proofs.Latest.{latest_stand}
+use Rattle.rows.proofs.Said.{blocks_said}
+use Rattle.rows.specs.Latest.{LatestOfMappings}
 
 -- the tables after all lines
 record All (rows : List Row) (entries : List Entry) (ls : List (List ℕ)) (t : Tables) : Type 0 where
@@ -114,10 +117,20 @@ module _ (t : Text) (rows rows' : List Row) (entries entries' : List Entry) (r :
       let s = stand [] (lines_of t.bytes) 0 (drop (length (rows_in 0 (blocks_of 0 (lines_of t.bytes)))) rows) k.texts k.fits in
       rw d (rw (text_lines t.bytes) at s)
 
+  pub latest_by : LatestOfMappings t r rows' entries'
+  latest_by n q =
+      let bs = blocks_of 0 (lines_of t.bytes) in
+      let k = well n q in
+      let s = shut (folded row_rules (fresh rows entries) (lines_of t.bytes)) n k.shuts in
+      let w = blocks_said (tables rows entries unmarked) (lines_of t.bytes) s.0 s.1 in
+      let d = (told_by n q).1.rows_stand in
+      let e = (told_by n q).1.entries_stand in
+      rw (d, e) (latest_stand bs [] (drop (length (rows_in 0 bs)) rows) (drop (length (entries_in bs)) entries) w)
+
 -- what is shown of an answer and of the cells
 abbrev pub Shown : Text → List Row → List Row → List Entry → List Entry → Result Counts Refusal → Text → Type 0
 Shown t rows rows' entries entries' r left =
-    record { defined : ◌≡◌ {A = Left} (r, rows', entries', left) (rows_of rows entries t); mappings : ToldByMappings t rows entries r rows' entries'; names : NamesAtPlaces t r rows'; accepts : AcceptsReadable t rows entries r }
+    record { defined : ◌≡◌ {A = Left} (r, rows', entries', left) (rows_of rows entries t); mappings : ToldByMappings t rows entries r rows' entries'; names : NamesAtPlaces t r rows'; latest : LatestOfMappings t r rows' entries'; accepts : AcceptsReadable t rows entries r }
 
 pub shown : (t : Text) (rows rows' : List Row) (entries entries' : List Entry) (r : Result Counts Refusal) (left : Text) → ◌≡◌ {A = Left} (r, rows', entries', left) (rows_of rows entries t) → Shown t rows rows' entries entries' r left
-shown t rows rows' entries entries' r left e = record { defined = e; mappings = told_by t rows rows' entries entries' r left e; names = names_by t rows rows' entries entries' r left e; accepts = accepts_by t rows rows' entries entries' r left e }
+shown t rows rows' entries entries' r left e = record { defined = e; mappings = told_by t rows rows' entries entries' r left e; names = names_by t rows rows' entries entries' r left e; latest = latest_by t rows rows' entries entries' r left e; accepts = accepts_by t rows rows' entries entries' r left e }

@@ -3,6 +3,7 @@ ghost use Rattle.sources.specs.declared.kind.Break.TheVariants.{Refuses};
 ghost use Rattle.rows.specs.Accepted.{AcceptsReadable};
 ghost use Rattle.rows.specs.Blocks.{ToldByMappings};
 ghost use Rattle.rows.specs.Placed.{NamesAtPlaces};
+ghost use Rattle.rows.specs.Latest.{LatestOfMappings};
 ghost use Rattle.rows.specs.Tables.{Filled, filled, tables, passed, valued, after_saying, after_sort, fresh, row_rules, has_begun, is_foreign, refusal_stays, foreign_aside, begins_with_any, rows_of};
 
 use crate::entry::{Entry, spot};
@@ -192,6 +193,7 @@ pub fn read_rows<S: Source>(
     ensures defined { (result, rows.new, entries.new, S.text source.new) ≡ rows_of rows.old entries.old (S.text source.old) }
     ensures mappings { ToldByMappings (S.text source.old) rows.old entries.old result rows.new entries.new }
     ensures names { NamesAtPlaces (S.text source.old) result rows.new }
+    ensures latest { LatestOfMappings (S.text source.old) result rows.new entries.new }
     ensures accepts { AcceptsReadable (S.text source.old) rows.old entries.old result }
 {
     let mut filling = Filling {
