@@ -47,7 +47,7 @@ impl Slots for LimitsSlots {
 
     ghost foreign = { is_foreign };
 
-    ghost fresh_slots = { fresh_slots };
+    ghost fresh = { fresh_slots };
 
     ghost blank = { blank_limits };
 
