@@ -29,7 +29,7 @@ word_first b (c ∷ cs) e =
     ap (λ (t : Bool). cond t (ascii_words (c ∷ cs)) (before_words is_ascii_whitespace b (c ∷ cs) (ascii_words (c ∷ cs)))) e
     ∙ more
     ∙ sym (ap (λ (t : Bool). take (cond (not t) (1 + prefix_len in_word (c ∷ cs)) 0) (b ∷ c ∷ cs) ∷ ascii_words (drop (cond (not t) (1 + prefix_len in_word (c ∷ cs)) 0) (b ∷ c ∷ cs))) e
-        ∙ ap (λ (m : ℕ). take m (b ∷ c ∷ cs) ∷ ascii_words (drop m (b ∷ c ∷ cs))) (one-add (prefix_len in_word (c ∷ cs))))
+    ∙ ap (λ (m : ℕ). take m (b ∷ c ∷ cs) ∷ ascii_words (drop m (b ∷ c ∷ cs))) (one-add (prefix_len in_word (c ∷ cs))))
 
 -- what `trim_ascii_start` says
 abbrev pub Skips : List ℕ → List ℕ → Type 0

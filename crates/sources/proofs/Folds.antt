@@ -60,8 +60,8 @@ folds R m t r left e s =
     let size : length (text_of (lines_of t.bytes)) ≤ max_text = subst (λ (bs : List ℕ). length bs ≤ max_text) (sym (text_lines t.bytes)) s.fits in
     let w = walk_taken R 0 0 m (lines_of t.bytes) s.lines (omega (arith, size)) in
     let whole : (r, left) ≡ (at_line n (R.closed last), text [] false) =
-        e
-        ∙ of_walk R m t _ (ap (λ (b : Bool). walk max_line max_text R b 0 0 m (lines_of t.bytes)) s.ends ∙ w ∙ ap (λ (k : ℕ). (Ok k, last, [])) zero_more)
-        ∙ answer_of R t.broken n last
-        ∙ ap (λ (b : Bool). (at_line n (R.closed last), text [] b)) s.ends in
+    e
+    ∙ of_walk R m t _ (ap (λ (b : Bool). walk max_line max_text R b 0 0 m (lines_of t.bytes)) s.ends ∙ w ∙ ap (λ (k : ℕ). (Ok k, last, [])) zero_more)
+    ∙ answer_of R t.broken n last
+    ∙ ap (λ (b : Bool). (at_line n (R.closed last), text [] b)) s.ends in
     (ap (λ p. p.0) whole, ap (λ p. p.1) whole)
