@@ -1,14 +1,13 @@
 -- One line more of a script.
-use Rattle.std.proofs.Common.{◌≡◌, ◌∙◌, ap, ap₂, subst, sym, refl, Bor, List, [], ◌∷◌, ◌++◌, map, ℕ, Option, Some, None}
-use Rattle.std.proofs.lemmas.List.{map-append}
+use Rattle.std.proofs.Common.{◌≡◌, ◌∙◌, ap, ap₂, subst, sym, refl, Bor, List, [], ◌∷◌, ◌++◌, map, ℕ, ◌<◌, ◌⊎◌, false, length, take, get_or, Option, Some, None, Result, Err, MatchResult, inl, inr}
+use Rattle.std.proofs.lemmas.List.{map-append, get_or_default}
 use Rattle.sources.specs.Pieces.{bytes_of, case_of}
-use Rattle.packlist.specs.Script.{Word, Read, AreWords, next, nothing_read, read_by, with_line, with_lines, words_of}
+use Rattle.packlist.specs.Script.{IsScript, IsNoScript, IsWrongLine, Word, Read, lines_in, numbered, AreWords, next, nothing_read, read_by, with_line, with_lines, words_of}
 use Rattle.packlist.specs.declared.script.Draft.{Draft}
-
--- The number of the last of these lines.
-abbrev pub numbered : ℕ → List (List Word) → ℕ
-numbered n [] = n
-numbered n (ws ∷ more) = numbered (next n) more
+use Rattle.packlist.specs.declared.script.Script.{Script}
+use Rattle.packlist.specs.declared.script.Fault.{Fault}
+use Rattle.packlist.specs.declared.script.Mistake.TheVariants as mistake
+use Rattle.sources.specs.Utf8.{is_utf8}
 
 itself : (o : Option Read) → case_of o None (λ r. Some r) ≡ o
 itself None = refl
@@ -48,3 +47,26 @@ turn ys ys' y d d' n n' ws p q s e h =
     subst (λ k. ReadSoFar (map bytes_of ys') d' k) (sym q)
     (subst (λ v. ReadSoFar v d' (next n)) (sym (ap (map bytes_of) p ∙ map-append bytes_of ys (y ∷ [])))
     (more (map bytes_of ys) y.now d d' n ws s e (ap (λ k. with_line k ws (read_by d)) (sym q) ∙ h)))
+
+-- The line that the loop is at is wrong.
+pub wrong : (text : List ℕ) (ys : List (Bor (List ℕ))) (y : Bor (List ℕ)) (d : Draft) (n n' : ℕ) → map bytes_of ys ≡ take (length ys) (lines_in text) → length ys < length (lines_in text) → y.now ≡ get_or (lines_in text) (length ys) y.now
+    → n' ≡ next n → ReadSoFar (map bytes_of ys) d n → (is_utf8 y.now ≡ false) ⊎ ((ws : List Word) × (map bytes_of ws ≡ words_of y.now) × (with_line n' ws (read_by d) ≡ None)) → IsWrongLine text n'
+wrong text ys y d n n' before within this q s bad =
+    let same : y.now ≡ get_or (lines_in text) (length ys) [] = this ∙ get_or_default (lines_in text) (length ys) y.now [] within in (
+      length ys,
+      s.0,
+      read_by d,
+      within,
+      s.1 ∙ ap (map words_of) before,
+      s.2,
+      q ∙ sym (ap next s.3),
+      subst (λ b. (is_utf8 b ≡ false) ⊎ ((ws : List Word) × (map bytes_of ws ≡ words_of b) × (with_line n' ws (read_by d) ≡ None))) same bad,
+    )
+
+pub refused : (text : List ℕ) (r : Result Script Fault) (f : Fault) → r ≡ Err f → IsNoScript text f → MatchResult r (λ s. IsScript text s) (λ g. IsNoScript text g)
+refused text r f e h = subst (λ v. MatchResult v (λ s. IsScript text s) (λ g. IsNoScript text g)) (sym e) h
+
+-- A fault that a line gave.
+pub faulted : (text : List ℕ) (f : Fault) (n : ℕ) (Bad : Type 0) → f.line ≡ Some n → (f.mistake ≡ mistake.Memory) ⊎ Bad → (Bad → IsWrongLine text n) → IsNoScript text f
+faulted text f n Bad e (inl m) k = inl m
+faulted text f n Bad e (inr b) k = inr (inl (n, e, k b))

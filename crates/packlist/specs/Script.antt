@@ -1,5 +1,5 @@
 -- What the words of a script's line ask for.
-use Rattle.std.specs.Prelude.{◌≡◌, ℕ, ◌+◌, ◌-◌, ◌^◌, min, Bool, cond, nat_lt, ◌==◌, length, List, [], ◌∷◌, ◌++◌, filter, map, slice_index, ℤ, Option, Some, None, is_some, is_none, Ok, Err, Result, codes}
+use Rattle.std.specs.Prelude.{◌≡◌, ◌⊎◌, ℕ, ◌+◌, ◌-◌, ◌^◌, ◌<◌, min, Bool, false, take, get_or, cond, nat_lt, ◌==◌, length, List, [], ◌∷◌, ◌++◌, filter, map, slice_index, ℤ, Option, Some, None, is_some, is_none, Ok, Err, Result, codes}
 use Rattle.std.specs.Char.{is_ascii_whitespace}
 use Rattle.std.specs.List.{slice_split}
 use Rattle.std.specs.Borrow.{Bor}
@@ -16,6 +16,8 @@ use Rattle.packlist.specs.declared.script.Line.{Line}
 use Rattle.packlist.specs.declared.script.Limit.{Limit}
 use Rattle.packlist.specs.declared.script.Draft.{Draft}
 use Rattle.packlist.specs.declared.script.Script.{Script}
+use Rattle.packlist.specs.declared.script.Fault.{Fault}
+use Rattle.sources.specs.Utf8.{is_utf8}
 use Rattle.packlist.specs.declared.script.Mistake.{Mistake}
 use Rattle.packlist.specs.declared.script.Mistake.TheVariants as mistake
 
@@ -161,8 +163,34 @@ nothing_read = record { limit = None; names = []; lines = [] }
 abbrev pub AreWords : List (List Word) → List (List ℕ) → Type 0
 AreWords rows lines = map (map bytes_of) rows ≡ map words_of lines
 
--- What a text reads as: the words of its lines, between bytes 10, come to a limit and lines that ask for calls.
+-- The lines of a text, between bytes 10.
+abbrev pub lines_in : List ℕ → List (List ℕ)
+lines_in text = slice_split (λ b. b == 10) text
+
+-- What a text reads as: the words of its lines come to a limit and lines that ask for calls.
 abbrev pub IsScript : List ℕ → Script → Type 0
 IsScript text s =
-    (rows : List (List Word)) × (r : Read) × AreWords rows (slice_split (λ b. b == 10) text)
+    (rows : List (List Word)) × (r : Read) × AreWords rows (lines_in text)
     × (with_lines 0 rows nothing_read ≡ Some r) × (r.limit ≡ Some (s.limit.words.items, s.limit.bytes)) × (r.lines ≡ map asked_by s.lines.items)
+
+-- The number of the last of these lines.
+abbrev pub numbered : ℕ → List (List Word) → ℕ
+numbered n [] = n
+numbered n (ws ∷ more) = numbered (next n) more
+
+-- A line of this number is wrong, behind lines that are right: it is no UTF-8, or its words add nothing.
+abbrev pub IsWrongLine : List ℕ → ℕ → Type 0
+IsWrongLine text number =
+    (k : ℕ) × (rows : List (List Word)) × (r : Read) × (k < length (lines_in text)) × AreWords rows (take k (lines_in text))
+    × (with_lines 0 rows nothing_read ≡ Some r) × (number ≡ next (numbered 0 rows))
+    × ((is_utf8 (get_or (lines_in text) k []) ≡ false) ⊎ ((ws : List Word) × (map bytes_of ws ≡ words_of (get_or (lines_in text) k [])) × (with_line number ws r ≡ None)))
+
+-- All lines are right, and none is a limit.
+abbrev pub HasNoLimit : List ℕ → Type 0
+HasNoLimit text = (rows : List (List Word)) × (r : Read) × AreWords rows (lines_in text) × (with_lines 0 rows nothing_read ≡ Some r) × (r.limit ≡ None)
+
+-- Why a text is not read: memory lacks, a line is wrong, or there is no limit.
+abbrev pub IsNoScript : List ℕ → Fault → Type 0
+IsNoScript text f =
+    (f.mistake ≡ mistake.Memory)
+    ⊎ (((n : ℕ) × (f.line ≡ Some n) × IsWrongLine text n) ⊎ ((f.line ≡ None) × (f.mistake ≡ mistake.NoLimit) × HasNoLimit text))

@@ -14,7 +14,7 @@
 ghost use Rattle.std.specs.Prelude.{◌≡◌, ◌⊎◌, true, false, map, None, Some, Ok, Err, IfOk, MatchResult};
 ghost use Rattle.std.specs.Option.{ok_or};
 ghost use Rattle.packlist.specs.declared.script.Mistake.TheVariants as mistake;
-ghost use Rattle.packlist.specs.Script.{IsScript, asked, bytes_in, came, file_of, latest_of, pid_in, read_by, with_call, with_limit, with_line, with_name, words_of};
+ghost use Rattle.packlist.specs.Script.{IsScript, IsNoScript, asked, bytes_in, came, file_of, latest_of, pid_in, read_by, with_call, with_limit, with_line, with_name, words_of};
 ghost use Rattle.sources.specs.Pieces.{bytes_of};
 ghost use Rattle.sources.specs.Utf8.{is_utf8};
 
@@ -369,7 +369,7 @@ impl<'a> Draft<'a> {
 }
 
 pub fn parse<'a>(alloc: Global, text: &'a [u8]) -> Result<Script<'a>, Fault<'a>>
-    ensures { IfOk result (λ s. IsScript text.now s) }
+    ensures { MatchResult result (λ s. IsScript text.now s) (λ f. IsNoScript text.now f) }
 {
     let mut draft = Draft {
         alloc,
