@@ -12,7 +12,7 @@ ghost use Rattle.std.specs.Prelude.{◌≡◌, ◌*◌, length, IfOk, vec_len};
 ghost use Rattle.runs.specs.Run.{answers_of};
 ghost use Rattle.packlist.specs.Files.{call_with, calls_of};
 
-use anyhow::{bail, ensure};
+use anyhow::bail;
 use files::{calls, read_texts};
 use report::{Room, Told, Words};
 use runs::call::Answer;
@@ -23,6 +23,23 @@ use std::io::Read;
 use std::process::ExitCode;
 use std::rt::Files;
 use std::{env, fs, io};
+
+const USAGE: &str =
+    "packlist [SCRIPT]                      runs a script of calls on one packing list;
+                                       without SCRIPT, or where it is -, standard input
+packlist --help                        this text
+
+A script has a call a line:
+limit BYTES                            a list with this limit; the first call
+measure NAME [recording] FILE          measures an smaps text
+admit PID HEADROOM NAME                takes a job in, charged for that measure and a headroom
+remeasure PID NAME                     charges a job anew
+note PID [recording] FILE              keeps what a status text tells of a job
+bound PID [recording] FILE             keeps what a limits text tells of a job
+release PID                            frees the place of a job
+look PID                               tells what is kept of a job
+used                                   tells the sum of the charges
+";
 
 fn read_script(rt: &(impl Files + Input + AllocGlobal), path: &str) -> io::Result<Vec<u8>> {
     if path != "-" {
@@ -89,8 +106,15 @@ fn print_fault(rt: &impl Eprint, name: &str, fault: &Fault<'_>) -> io::Result<()
 fn main(rt: HostRuntime) -> anyhow::Result<ExitCode> {
     let mut args = env::args(&rt)?.skip(1);
     let path = args.next();
-    ensure!(args.next().is_none(), "packlist takes one script");
     let path = path.as_ref().map_or("-", |path| path.as_str());
+    if args.next().is_some() {
+        eprint!(rt; "{USAGE}")?;
+        return Ok(ExitCode::from(2));
+    }
+    if path == "--help" {
+        print!(rt; "{USAGE}")?;
+        return Ok(ExitCode::SUCCESS);
+    }
     let name = if path == "-" { "standard input" } else { path };
     let text = match read_script(&rt, path) {
         Ok(text) => text,
