@@ -50,9 +50,6 @@ module _ {E S R : Type 0} (entry : List ℕ → Result (Option E) Fault) (fill :
     pub lines : ToldByLastLines entry fill judges fresh blank on_break t o.0 o.1
     pub editions : SameRecordInEditions rules has_begun foreign (Ok fresh) blank t o.0 o.1
 
-  -- It holds of what the reading answers, puts into the record and leaves.
-  pub shown : (t : Text) {x : Result R Refusal} {left : Text} {r : Result (Unit {0}) Refusal} {b v : R} →
-      (x, left) ≡ reading rules (Ok fresh) t → b ≡ blank → r ≡ told x → v ≡ left_in_record b x → Shown t (r, v, left)
-  shown t {x} {left} {r} {b} {v} e f g k =
-      let q : (r, v, left) ≡ into blank (reading rules (Ok fresh) t) = rw (g, k, f) (ap (into blank) e) in
-      subst (Shown t) (sym q) (record { defined = refl; lines = by_last_lines t; editions = same-editions t })
+  -- It holds of what is defined.
+  pub shown : (t : Text) {o : Result (Unit {0}) Refusal × R × Text} → o ≡ into blank (reading rules (Ok fresh) t) → Shown t o
+  shown t q = subst (Shown t) (sym q) (record { defined = refl; lines = by_last_lines t; editions = same-editions t })

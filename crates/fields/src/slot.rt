@@ -32,5 +32,8 @@ pub fn optional<T>(field: u8, slot: Slot<T>) -> Result<Option<T>, Fault>
 pub fn lenient<T>(field: u8, slot: Slot<Option<T>>) -> Result<Option<T>, Fault>
     ensures { result ≡ lenient_of field slot }
 {
-    Ok(optional(field, slot)?.flatten())
+    match slot {
+        None => Ok(None),
+        Some(r) => at_field(field, r),
+    }
 }

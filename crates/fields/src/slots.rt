@@ -1,4 +1,5 @@
 ghost use Rattle.std.specs.Prelude.{◌≡◌, ℕ, Bool, true, List, [], ◌∷◌, None, Ok, Option as OptionOf, Result as ResultOf};
+ghost use Rattle.std.specs.Result.{result_and};
 ghost use Rattle.sources.specs.declared.fault.Fault.{Fault as FaultOf};
 ghost use Rattle.sources.specs.declared.kind.Break.{Break as BreakOf};
 ghost use Rattle.fields.specs.Slots.{answered, kept, after_entry};
@@ -46,8 +47,9 @@ pub trait Slots: Sized {
         ensures answer { result ≡ answered (after_entry fill self.old (entry line.now)) }
         ensures slots { self.new ≡ kept self.old (after_entry fill self.old (entry line.now)) };
 
-    fn judge(&self) -> Result<Self::Record, Fault>
-        ensures { result ≡ judged self.now };
+    // Sets every field of the record, or answers what is wrong; the record is then as far as it was set.
+    fn judge(&self, record: &mut Self::Record) -> Result<(), Fault>
+        ensures { result_and result (Ok «record».new) ≡ judged self.now };
 
     // No entry leaves fresh slots fresh, and one more is put before the others.
     ghost none: { fill [] fresh ≡ fresh };

@@ -3,3 +3,4 @@ pub mod Steps
 pub mod Measures
 pub mod Joins
 pub mod Laws
+pub mod Filled

@@ -1,4 +1,4 @@
--- The measure of a text, of a recording, and of two texts joined.
+-- The measure of figures, of a text, of a recording, and of two texts joined.
 use Rattle.std.specs.Prelude.{ℕ, cond, List, Err, Result}
 use Rattle.sources.specs.declared.fault.Refusal.{Refusal}
 use Rattle.sources.specs.declared.reason.Reason.TheVariants.{Spool}
@@ -7,7 +7,12 @@ use Rattle.sources.specs.Texts.{Text, text, joined}
 use Rattle.sources.specs.Lines.{reading}
 use Rattle.sources.specs.Records.{recorded, records_of, text_of_records, ending_of}
 use Rattle.kinds.specs.declared.measure.Closed.{Closed}
+use Rattle.kinds.specs.declared.measure.Figures.{Figures}
 use Rattle.kinds.specs.Measure.{measure_rules, fresh}
+
+-- A closed measure of these figures.
+abbrev pub closed_of : ℕ → Figures → Closed
+closed_of mappings totals = record { mappings = mappings; totals = totals }
 
 abbrev pub measured : Text → Result Closed Refusal
 measured t = (reading measure_rules fresh t).0

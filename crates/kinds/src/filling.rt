@@ -1,17 +1,17 @@
 ghost use Rattle.std.specs.Prelude.{◌≡◌, ◌∷◌, [], Ok, refl, Result as ResultOf};
-ghost use Rattle.std.specs.Result.{result_err};
+ghost use Rattle.std.specs.Result.{result_and, result_err};
 ghost use Rattle.sources.specs.declared.fault.Fault.{Fault as FaultOf};
 ghost use Rattle.sources.specs.Faults.{and_then};
 ghost use Rattle.sources.specs.Lines.{reading};
 ghost use Rattle.sources.specs.Rules.{verdict as verdict_of};
-ghost use Rattle.fields.specs.LastLines.{told, left_in_record, into, ToldByLastLines, SameRecordInEditions};
+ghost use Rattle.fields.specs.LastLines.{into, ToldByLastLines, SameRecordInEditions};
 ghost use Rattle.fields.specs.Slots.{after_entry};
 ghost use Rattle.fields.specs.Slotted.{slot_rules, has_begun, refusal_stays, foreign_aside, begins_with_any};
 
 use fields::slots::Slots;
-use sources::drive::fill;
-use sources::fault::{Fault, Refusal};
-use sources::kind::{Break, Finish, Kind};
+use sources::drive::lines;
+use sources::fault::{Fault, Refusal, at_line};
+use sources::kind::{Break, Kind};
 use sources::source::Source;
 
 // Slots that lines fill, or the fault of a line that was refused: the kind of every text of fields.
@@ -72,34 +72,51 @@ impl<S: Slots + Drop> Kind for Filling<S> {
     ghost still = { λ _ _ _ _ _. tt };
 }
 
-impl<S: Slots + Drop> Finish for Filling<S> {
-    fn finish(&mut self) -> Result<S::Record, Fault> {
-        self.state.as_ref().map_err(|f| *f)?.judge()
+impl<S: Slots + Drop> Filling<S> {
+    // Closes the slots into a record, and answers what is wrong, if anything is.
+    // No `Finish`, which answers what it makes: a record of a status is large, and would be moved at each step to the caller.
+    fn finish(&self, record: &mut S::Record) -> Result<(), Fault>
+        ensures { result_and result (Ok «record».new) ≡ (slot_rules S.entry S.fill S.judged S.BREAK).closed self.now.state }
+    {
+        match &self.state {
+            Ok(slots) => slots.judge(record),
+            Err(f) => Err(*f),
+        }
     }
 }
 
-// Puts what was read into the caller's record, which a refusal blanks.
-pub fn put_record<R: Drop>(
-    read: Result<R, Refusal>,
-    blank: R,
-    record: &mut R,
+// Reads the text of a source by slots into a record, which is as far as it was set where that is refused.
+fn fill_record<T: Source, S: Slots + Drop>(
+    source: &mut T,
+    filling: &mut Filling<S>,
+    record: &mut S::Record,
 ) -> Result<(), Refusal>
-    ensures answer { result ≡ told read }
-    ensures holds { «record».new ≡ left_in_record blank read }
+where
+    S::Record: Drop,
+    ensures { (result_and result (Ok «record».new), T.text source.new) ≡ reading (slot_rules S.entry S.fill S.judged S.BREAK) filling.old.state (T.text source.old) }
 {
-    match read {
-        Ok(v) => {
-            *record = v;
-            Ok(())
-        }
-        Err(f) => {
-            *record = blank;
-            Err(f)
-        }
-    }
+    let taken = lines(source, filling)?;
+    at_line(filling.finish(record), taken)
 }
 
-// Reads the text of a source into a record, which is blank after a refusal.
+// Reads the text of a source by fresh slots into a record, which is blank after a refusal.
+fn read_defined<T: Source, S: Slots + Drop>(
+    source: &mut T,
+    record: &mut S::Record,
+) -> Result<(), Refusal>
+where
+    S::Record: Drop,
+    ensures { (result, «record».new, T.text source.new) ≡ into S.blank (reading (slot_rules S.entry S.fill S.judged S.BREAK) (Ok S.fresh) (T.text source.old)) }
+{
+    let mut filling = Filling::new(S::new());
+    if let Err(f) = fill_record(source, &mut filling, record) {
+        *record = S::blank_record();
+        return Err(f);
+    }
+    Ok(())
+}
+
+// The same, with what it comes to.
 pub fn read_record<T: Source, S: Slots + Drop>(
     source: &mut T,
     record: &mut S::Record,
@@ -110,6 +127,5 @@ where
     ensures lines { ToldByLastLines S.entry S.fill S.judged S.fresh S.blank S.BREAK (T.text source.old) result «record».new }
     ensures editions { SameRecordInEditions (slot_rules S.entry S.fill S.judged S.BREAK) has_begun S.foreign (Ok S.fresh) S.blank (T.text source.old) result «record».new }
 {
-    let mut filling = Filling::new(S::new());
-    put_record(fill(source, &mut filling), S::blank_record(), record)
+    read_defined::<T, S>(source, record)
 }

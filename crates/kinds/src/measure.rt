@@ -2,7 +2,7 @@ ghost use Rattle.std.specs.Prelude.{◌≡◌, ◌+◌, refl};
 ghost use Rattle.sources.specs.declared.kind.Break.TheVariants.{Refuses};
 ghost use Rattle.kinds.specs.Measure.{fresh, next, measure_rules, has_begun, is_foreign, capped, sum_of, set_to, closed_with, opened};
 ghost use Rattle.kinds.specs.MeasureLaws.{refusal_stays, foreign_aside, begins_with_mapping};
-ghost use Rattle.kinds.specs.Measured.{recording_of, join_of};
+ghost use Rattle.kinds.specs.Measured.{closed_of, recording_of, join_of};
 ghost use Rattle.kinds.specs.Sums.{Measures, SameInEditions, AddsOverJoins};
 ghost use Rattle.kinds.specs.declared.measure.State.{State as Standing};
 ghost use Rattle.sources.specs.Lines.{reading};
@@ -49,7 +49,7 @@ pub struct Open {
     state: State,
 }
 
-// A measure that is done. It is made by closing an open one, and can't be copied.
+// A measure that is done. It is made by closing an open one, or of figures that were one, and can't be copied.
 #[derive(Drop)]
 pub struct Closed {
     mappings: u32,
@@ -57,6 +57,13 @@ pub struct Closed {
 }
 
 impl Closed {
+    // For a boundary over which measures are handed as figures: who calls it answers for it that they were measured.
+    pub fn from_figures(mappings: u32, totals: Figures) -> Closed
+        ensures { result ≡ closed_of mappings totals }
+    {
+        Closed { mappings, totals }
+    }
+
     pub fn mappings(&self) -> u32
         ensures { result ≡ self.now.mappings }
     {

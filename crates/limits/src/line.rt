@@ -1,6 +1,6 @@
 ghost use Rattle.std.specs.Prelude.{◌≡◌, ◌<◌};
 
-use crate::names::place_of;
+use crate::names::{named, place_of};
 use crate::words::{count_words, word_at, words_behind};
 use sources::fault::Fault;
 use sources::pieces::{past, trimmed};
@@ -16,7 +16,22 @@ pub struct Setting<'a> {
 }
 
 impl<'a> Setting<'a> {
-    ghost use Rattle.limits.specs.Entries.{entry_of, seen_entry};
+    ghost use Rattle.std.specs.Prelude.{IfSome, Ok, Some};
+    ghost use Rattle.limits.specs.Entries.{entry_of, seen_entry, told_entry, trimmed_entry};
+
+    // What a trimmed line says, if it begins with a name that is written as the kernel writes it, and has the words that belong behind it: these are looked at once.
+    fn plain(text: &'a str) -> Option<Setting<'a>>
+        ensures { IfSome result (λ s. trimmed_entry text.now ≡ Ok (Some (told_entry s))) }
+    {
+        let (place, rest) = named(text)?;
+        let mut words = rest.split_whitespace();
+        let soft = words.next()?;
+        let hard = words.next()?;
+        if words.count() + 2 != words_behind(text) {
+            return None;
+        }
+        Some(Setting { place, soft, hard })
+    }
 
     // What the line says, if it names a limit.
     pub fn from_line(line: &'a str) -> Result<Option<Setting<'a>>, Fault>
@@ -25,6 +40,9 @@ impl<'a> Setting<'a> {
         let text = trimmed(line);
         if past(text, "Limit").is_some() {
             return Ok(None);
+        }
+        if let Some(setting) = Setting::plain(text) {
+            return Ok(Some(setting));
         }
         let count = count_words(text);
         if count < 3 {

@@ -67,8 +67,8 @@ impl Slots for LimitsSlots {
         Ok(())
     }
 
-    fn judge(&self) -> Result<Limits, Fault> {
-        Ok(Limits {
+    fn judge(&self, record: &mut Limits) -> Result<(), Fault> {
+        *record = Limits {
             max_cpu_time: self.limit(0)?,
             max_file_size: self.limit(1)?,
             max_data_size: self.limit(2)?,
@@ -85,7 +85,8 @@ impl Slots for LimitsSlots {
             max_nice_priority: self.limit(13)?,
             max_realtime_priority: self.limit(14)?,
             max_realtime_timeout: self.limit(15)?,
-        })
+        };
+        Ok(())
     }
 
     ghost none = { no_entries };

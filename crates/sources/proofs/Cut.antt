@@ -1,16 +1,35 @@
 -- The first word of a text, where white bytes in front of it are passed over.
-use Rattle.std.proofs.Common.{◌≡◌, ℕ, zero, suc, ◌+◌, ◌<◌, ◌≤◌, Bool, true, false, cond, not, eqb, List, [], ◌∷◌, length, get_or, take, drop, refl, sym, ap, ◌∙◌, one-add, arith}
+use Rattle.std.proofs.Common.{◌≡◌, ℕ, zero, suc, ◌+◌, ◌<◌, ◌≤◌, Bool, true, false, cond, not, eqb, List, [], ◌∷◌, length, get_or, take, drop, Some, None, Option, ◌==◌, refl, sym, ap, ◌∙◌, one-add, arith}
 use Rattle.std.specs.Char.{is_ascii_whitespace}
 use Rattle.std.specs.Str.{IsCharBoundary}
 use Rattle.std.specs.List.{prefix_len}
 use Rattle.std.proofs.lemmas.List.Sums.{prefix_len-le-length}
 use Rattle.std.proofs.lemmas.Bool.Decides.{nat_tests}
+use Rattle.std.proofs.lemmas.Bool.{eqb-true}
+use Rattle.sources.specs.Pieces.{past, case_of}
 use Rattle.sources.specs.Words.{in_word, onto, before_words, ascii_words}
 
 gap_passed : (bs : List ℕ) (n : ℕ) → n ≤ length bs → ((i : ℕ) → i < n → is_ascii_whitespace (get_or bs i 0) ≡ true) → ascii_words bs ≡ ascii_words (drop n bs)
 gap_passed bs zero l h = refl
 gap_passed [] (suc n) l h = absurd (omega arith)
 gap_passed (b ∷ bs) (suc n) l h = rw (h 0 (omega arith)) (gap_passed bs n (omega arith) (λ i k. h (suc i) (omega arith)))
+
+abbrev spaces : ℕ → List ℕ
+spaces zero = []
+spaces (suc n) = 32 ∷ spaces n
+
+one_passed : (b n : ℕ) (bs m : List ℕ) → ((k : List ℕ) → past (spaces n) bs ≡ Some k → ascii_words bs ≡ ascii_words k)
+    → (t : Bool) → (b == 32) ≡ t → cond t (past (spaces n) bs) None ≡ Some m → ascii_words (b ∷ bs) ≡ ascii_words m
+one_passed b n bs m f true t e = ap (λ (c : ℕ). ascii_words (c ∷ bs)) (eqb-true b 32 t) ∙ f m e
+one_passed b n bs m f false t e = cc
+
+spaces_passed : (n : ℕ) (bs m : List ℕ) → past (spaces n) bs ≡ Some m → ascii_words bs ≡ ascii_words m
+spaces_passed zero bs m e = ap (λ (o : Option (List ℕ)). ascii_words (case_of o bs (λ k. k))) e
+spaces_passed (suc n) [] m e = cc
+spaces_passed (suc n) (b ∷ bs) m e = one_passed b n bs m (spaces_passed n bs) (b == 32) refl e
+
+pub eight_passed : (bs m : List ℕ) → past (32 ∷ 32 ∷ 32 ∷ 32 ∷ 32 ∷ 32 ∷ 32 ∷ 32 ∷ []) bs ≡ Some m → ascii_words bs ≡ ascii_words m
+eight_passed bs m e = spaces_passed 8 bs m e
 
 -- a byte of a word before a byte c and others, of which n begin with more of the word
 one_more : (b c : ℕ) (cs : List ℕ) (n : ℕ) → (is_ascii_whitespace c ≡ true → n ≡ 0) → (is_ascii_whitespace c ≡ false → ascii_words (c ∷ cs) ≡ take n (c ∷ cs) ∷ ascii_words (drop n (c ∷ cs)))

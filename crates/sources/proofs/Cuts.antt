@@ -1,7 +1,8 @@
-use Rattle.std.proofs.Common.{◌≡◌, ℕ, suc, ◌<◌, false, eqb, List, [], ◌∷◌, ◌++◌, length, get_or, Some, None, Option, sym, refl, arith, Bor, eq-eqb, ne_eqb}
+use Rattle.std.proofs.Common.{◌≡◌, ◌∙◌, ℕ, zero, suc, ◌+◌, ◌<◌, Bool, true, false, cond, eqb, List, [], ◌∷◌, length, get_or, take, drop, Some, None, Option, ap, subst, sym, refl, arith, eq-eqb, ne_eqb, lt-ltb}
 use Rattle.std.specs.Option.{option_map}
-use Rattle.std.proofs.lemmas.Str.Pattern.{IsSplitOnceResult, split_parts}
-use Rattle.sources.specs.Pieces.{cut, bytes_of_2}
+use Rattle.std.proofs.lemmas.Bool.{eqb-true}
+use Rattle.memchr.specs.Find.{IsFirstByte, is_byte}
+use Rattle.sources.specs.Pieces.{cut, cut_at}
 
 -- no byte of bs is c
 abbrev pub Lacks : ℕ → List ℕ → Type 0
@@ -17,10 +18,29 @@ pub cut-none : (c : ℕ) (bs : List ℕ) → Lacks c bs → cut c bs ≡ None
 cut-none c [] h = refl
 cut-none c (x ∷ xs) h = rw (lacks_head c x xs h, cut-none c xs (lacks_tail c x xs h))
 
-pub cut-some : (c : ℕ) (xs ys : List ℕ) → Lacks c xs → cut c (xs ++ (c ∷ ys)) ≡ Some (xs, ys)
-cut-some c [] ys h = rw (eq-eqb c c refl)
-cut-some c (x ∷ xs) ys h = rw (lacks_head c x xs h, cut-some c xs ys (lacks_tail c x xs h))
+more : (i : ℕ) → suc (i + 1) ≡ suc i + 1
+more i = omega arith
 
-pub split_is_cut : (c : ℕ) (bs : List ℕ) (r : Option (Bor (List ℕ) × Bor (List ℕ))) → IsSplitOnceResult c bs r → c < 128 → option_map bytes_of_2 r ≡ cut c bs
-split_is_cut c bs None h lt = sym (cut-none c bs (split_parts c bs None h lt))
-split_is_cut c bs (Some p) h lt = let e = split_parts c bs (Some p) h lt in rw e.0 (sym (cut-some c p.0.now p.1.now e.1))
+-- told by a search for the byte
+pub cut-at : (c : ℕ) (bs : List ℕ) (i : ℕ) → i < length bs → eqb (get_or bs i 0) c ≡ true → ((k : ℕ) → k < i → eqb (get_or bs k 0) c ≡ true → ⊥) → cut c bs ≡ Some (take i bs, drop (i + 1) bs)
+cut-at c [] i l e h = absurd (omega arith)
+cut-at c (x ∷ xs) zero l e h = rw e
+cut-at c (x ∷ xs) (suc i) l e h =
+    let ih = cut-at c xs i (omega arith) e (λ k l e. h (suc k) (omega arith) e) in
+    elim (eqb x c) as (λ t. eqb x c ≡ t → cond {A = Option (List ℕ × List ℕ)} t (Some ([], xs)) (option_map (λ p. (x ∷ p.0, p.1)) (cut c xs)) ≡ Some (x ∷ take i xs, drop (suc i + 1) (x ∷ xs))) [
+      | true ↦ λ e. absurd (h 0 (omega arith) e)
+      | false ↦ λ e. ap (option_map (λ (p : List ℕ × List ℕ). (x ∷ p.0, p.1))) ih ∙ ap (λ (n : ℕ). Some (x ∷ take i xs, drop n (x ∷ xs))) (more i)
+    ] refl
+
+pub cut_found : (c : ℕ) (bs : List ℕ) (r : Option ℕ) → IsFirstByte (is_byte c) bs r → cut c bs ≡ option_map (λ i. (take i bs, drop (i + 1) bs)) r
+cut_found c bs None h = cut-none c bs (λ k l e. h k (omega arith) l (eq-eqb (get_or bs k 0) c e))
+cut_found c bs (Some i) h = cut-at c bs i h.0.high h.1 (λ k l e. h.0.before k (omega arith) l e)
+
+pub cut_ascii : (c : ℕ) (bs : List ℕ) → c < 128 → cut_at c bs ≡ cut c bs
+cut_ascii c bs l = ap (λ (b : Bool). cond b (cut c bs) None) (lt-ltb c 128 l)
+
+-- An ASCII byte that is found
+pub found_byte : (c : ℕ) (bs : List ℕ) (r : Option ℕ) (i : ℕ) → IsFirstByte (is_byte c) bs r → r ≡ Some i → c < 128 → (i < length bs) × (get_or bs i 0 < 128)
+found_byte c bs r i h e l =
+    let at = subst (IsFirstByte (is_byte c) bs) e h in
+    (at.0.high, subst (λ (x : ℕ). x < 128) (sym (eqb-true (get_or bs i 0) c at.1)) l)

@@ -2,6 +2,7 @@ pub mod Bytes
 pub mod Texts
 pub mod Given
 pub mod Records
+pub mod Inputs
 pub mod Reasons
 pub mod Faults
 pub mod Number

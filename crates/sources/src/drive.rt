@@ -70,9 +70,9 @@ fn next_line<S: Source>(source: &mut S, buf: &mut [u8]) -> Next
     }
 }
 
-// Hands the lines of a text to a kind, and answers how many; the kind is to be closed then.
+// Hands the lines of a text to a kind, and answers how many. The kind is to be closed then: by `read` and `fill`, or by a caller who closes it into memory of his own.
 // A loop that counts, and no iterator: each line stands in the one buffer, which an Iterator could not lend.
-fn lines<S: Source, K: Kind>(source: &mut S, kind: &mut K) -> Result<u32, Refusal>
+pub fn lines<S: Source, K: Kind>(source: &mut S, kind: &mut K) -> Result<u32, Refusal>
     ensures course { (result, K.means kind.new, S.text source.new) ≡ course K.rules (K.means kind.old) (S.text source.old) }
     ensures frame { K.frame kind.old kind.new }
 {

@@ -4,6 +4,7 @@
 pub mod drive;
 pub mod fault;
 pub mod held;
+pub mod input;
 pub mod join;
 pub mod kind;
 pub mod number;

@@ -1,8 +1,10 @@
-ghost use Rattle.std.specs.Prelude.{◌≡◌, ℕ, List, Result as ResultOf};
+ghost use Rattle.std.specs.Prelude.{◌≡◌, ℕ, List, IfSome, true, Result as ResultOf};
+ghost use Rattle.std.specs.Char.{digit_value};
+ghost use Rattle.std.specs.Str.Parse.{digits_value};
 ghost use Rattle.sources.specs.declared.fault.NumberFault.{NumberFault as FaultOf};
 ghost use Rattle.sources.specs.declared.fault.NumberFault.TheVariants.{Unreadable};
 ghost use Rattle.sources.specs.declared.number.Radix.{Radix as RadixOf};
-ghost use Rattle.sources.specs.Number.{base_of, unsigned, signed, two_of};
+ghost use Rattle.sources.specs.Number.{base_of, numeral, unsigned, signed, two_of};
 
 use crate::fault::{Fault, NumberFault};
 use crate::pieces::{cut, up_to};
@@ -47,11 +49,45 @@ impl From<ParseIntError> for NumberFault {
     }
 }
 
+// The value of a digit; of what is none, 36, which is below no base.
+fn value_of(digit: u8) -> u64
+    ensures { result ≡ digit_value digit }
+{
+    u64::from(match digit {
+        b'0'..=b'9' => digit - b'0',
+        b'A'..=b'Z' => digit - b'A' + 10,
+        b'a'..=b'z' => digit - b'a' + 10,
+        _ => 36,
+    })
+}
+
+// The number that digits of the base write, where there is nothing but these, and it fits. Most numbers of the kernel's texts are such, and this reads them faster than the library, which sees to signs and to what does not fit.
+fn plain(digits: &[u8], radix: Radix) -> Option<u64>
+    ensures { IfSome result (λ n. (numeral (base_of radix) digits.now ≡ true) × (digits_value (base_of radix) digits.now ≡ n)) }
+{
+    if digits.is_empty() {
+        return None;
+    }
+    let base = u64::from(radix.base());
+    let mut n: u64 = 0;
+    for digit in digits {
+        let value = value_of(*digit);
+        if value >= base {
+            return None;
+        }
+        n = n.checked_mul(base)?.checked_add(value)?;
+    }
+    Some(n)
+}
+
 // An impl for each type, since std reads each type by a function of that type's own.
 impl FromStrRadix for u64 {
     ghost reading = { unsigned 64 };
 
     fn from_str_radix(t: &str, radix: Radix) -> Result<u64, NumberFault> {
+        if let Some(n) = plain(t.as_bytes(), radix) {
+            return Ok(n);
+        }
         u64::from_str_radix(t, radix.base()).map_err(NumberFault::from)
     }
 }
@@ -60,6 +96,11 @@ impl FromStrRadix for u32 {
     ghost reading = { unsigned 32 };
 
     fn from_str_radix(t: &str, radix: Radix) -> Result<u32, NumberFault> {
+        if let Some(n) = plain(t.as_bytes(), radix) {
+            if let Ok(n) = u32::try_from(n) {
+                return Ok(n);
+            }
+        }
         u32::from_str_radix(t, radix.base()).map_err(NumberFault::from)
     }
 }
@@ -68,6 +109,11 @@ impl FromStrRadix for i32 {
     ghost reading = { signed 31 };
 
     fn from_str_radix(t: &str, radix: Radix) -> Result<i32, NumberFault> {
+        if let Some(n) = plain(t.as_bytes(), radix) {
+            if let Ok(n) = i32::try_from(n) {
+                return Ok(n);
+            }
+        }
         i32::from_str_radix(t, radix.base()).map_err(NumberFault::from)
     }
 }

@@ -3,6 +3,8 @@ ghost use Rattle.std.specs.Option.{option_map};
 ghost use Rattle.sources.specs.Pieces.{bytes_of, bytes_of_2, cut_at, past as past_of, shorn as shorn_of, up_to as up_to_of};
 ghost use Rattle.sources.specs.White.{trim as trim_of, trim_start as trim_start_of};
 
+use memchr::memchr;
+
 // Methods of the library, and `up_to` over them, each under a contract that is an executable definition.
 
 // What stands before the first `at`, an ASCII character, and what stands after it.
@@ -12,7 +14,9 @@ pub fn cut(text: &str, at: char) -> Option<(&str, &str)>
     if at >= '\u{80}' {
         return None;
     }
-    text.split_once(at)
+    // As an ASCII character it is one byte.
+    let i = memchr(at as u8, text.as_bytes())?;
+    Some((&text[..i], &text[i + 1..]))
 }
 
 // The part before the first `at`, or all.

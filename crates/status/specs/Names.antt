@@ -1,5 +1,6 @@
 -- The names of the lines, and the field that each sets.
-use Rattle.std.specs.Prelude.{ℕ, List, [], ◌∷◌, codes, find, Option}
+use Rattle.std.specs.Prelude.{ℕ, Bool, false, List, [], ◌∷◌, codes, filter, find, Option, ◌==◌}
+use Rattle.std.specs.Borrow.{Bor}
 use Rattle.std.specs.Option.{option_map}
 use Rattle.std.specs.Str.{bytes_eq}
 
@@ -66,3 +67,15 @@ names =
 -- The number of the first field that a line of this name sets, where the name is one of these.
 unfoldable pub field_of : List ℕ → Option ℕ
 field_of name = option_map (λ own. own.0) (find (λ own. bytes_eq own.1 name) names)
+
+-- Whether a name begins with a byte, and the names that do.
+abbrev pub begins : ℕ → ℕ × List ℕ → Bool
+begins first (number, []) = false
+begins first (number, b ∷ bs) = first == b
+
+unfoldable pub names_with : ℕ → List (ℕ × List ℕ)
+names_with first = filter (begins first) names
+
+-- A number and a borrowed name, by its bytes.
+abbrev pub named : ℕ × Bor (List ℕ) → ℕ × List ℕ
+named own = (own.0, own.1.now)

@@ -1,5 +1,6 @@
 ghost use Rattle.std.specs.Prelude.{◌≡◌, [], ◌∷◌};
 ghost use Rattle.std.specs.Result.{result_and};
+ghost use Rattle.fields.specs.Values.{mask_of, ranges_of};
 ghost use Rattle.status.specs.OthersFields.{fill_others, judged_others};
 
 use crate::record::Status;
@@ -25,6 +26,19 @@ pub struct OthersSlots {
     pub(crate) thp_enabled: Slot<bool>,
 }
 
+// Functions of their own, so that other lines make no room for a list.
+fn put_mask(slot: &mut Slot<Counted<u32, 256>>, text: &str)
+    ensures { slot.new ≡ Some (mask_of text.now) }
+{
+    *slot = Some(mask(text));
+}
+
+fn put_ranges(slot: &mut Slot<Option<Counted<(u32, u32), 128>>>, text: &str)
+    ensures { slot.new ≡ Some (ranges_of text.now) }
+{
+    *slot = Some(ranges(text));
+}
+
 impl OthersSlots {
     // After a line that sets the field `number`.
     pub(crate) fn next(&mut self, number: u8, text: &str)
@@ -34,10 +48,10 @@ impl OthersSlots {
             51 => self.nonewprivs = Some(figure(text, Radix::Decimal)),
             52 => self.seccomp = Some(figure(text, Radix::Decimal)),
             53 => self.speculation_store_bypass = Some(Ok(copied(text))),
-            54 => self.cpus_allowed = Some(mask(text)),
-            55 => self.cpus_allowed_list = Some(ranges(text)),
-            56 => self.mems_allowed = Some(mask(text)),
-            57 => self.mems_allowed_list = Some(ranges(text)),
+            54 => put_mask(&mut self.cpus_allowed, text),
+            55 => put_ranges(&mut self.cpus_allowed_list, text),
+            56 => put_mask(&mut self.mems_allowed, text),
+            57 => put_ranges(&mut self.mems_allowed_list, text),
             58 => self.voluntary_ctxt_switches = Some(figure(text, Radix::Decimal)),
             59 => self.nonvoluntary_ctxt_switches = Some(figure(text, Radix::Decimal)),
             60 => self.core_dumping = Some(Ok(flag(text))),

@@ -1,9 +1,10 @@
-ghost use Rattle.std.specs.Prelude.{◌≡◌, [], ◌∷◌, refl};
+ghost use Rattle.std.specs.Prelude.{◌≡◌, [], ◌∷◌, Ok, refl};
+ghost use Rattle.std.specs.Result.{result_and};
 ghost use Rattle.sources.specs.declared.kind.Break.TheVariants.{Refuses};
 ghost use Rattle.fields.specs.Slots.{Entry as EntryOf};
 ghost use Rattle.status.specs.Line.{entry_of, is_foreign};
 ghost use Rattle.status.specs.LineLaws.{foreign_empty};
-ghost use Rattle.status.specs.Record.{fill_slots, judged_slots, fresh_slots, blank_status, SetsEveryField};
+ghost use Rattle.status.specs.Record.{fill_slots, judged_into, judged_slots, fresh_slots, blank_status, SetsEveryField};
 
 use crate::ids::IdsSlots;
 use crate::line::entry;
@@ -108,6 +109,18 @@ impl StatusSlots {
         self.signals.next(number, text);
         self.others.next(number, text);
     }
+
+    // Sets the fields, topic by topic.
+    fn judge_into(&self, status: &mut Status) -> Result<(), Fault>
+        ensures { result_and result (Ok status.new) ≡ judged_into status.old self.now }
+    {
+        self.ids.judge(status)?;
+        self.owner.judge(status)?;
+        self.spaces.judge(status)?;
+        self.memory.judge(status)?;
+        self.signals.judge(status)?;
+        self.others.judge(status)
+    }
 }
 
 impl Slots for StatusSlots {
@@ -146,15 +159,10 @@ impl Slots for StatusSlots {
         Ok(())
     }
 
-    fn judge(&self) -> Result<Status, Fault> {
-        let mut status = Status::blank();
-        self.ids.judge(&mut status)?;
-        self.owner.judge(&mut status)?;
-        self.spaces.judge(&mut status)?;
-        self.memory.judge(&mut status)?;
-        self.signals.judge(&mut status)?;
-        self.others.judge(&mut status)?;
-        Ok(status)
+    // What the record held before does not matter, since every field is set.
+    #[tactic(auto, using(crate::proofs::Every::sets_every_field))]
+    fn judge(&self, record: &mut Status) -> Result<(), Fault> {
+        self.judge_into(record)
     }
 
     ghost none = { refl };

@@ -1,5 +1,6 @@
 ghost use Rattle.std.specs.Prelude.{◌≡◌, [], ◌∷◌};
 ghost use Rattle.std.specs.Result.{result_and};
+ghost use Rattle.fields.specs.Values.{groups_of, spaces_of};
 ghost use Rattle.status.specs.SpacesFields.{fill_spaces, judged_spaces};
 
 use crate::record::Status;
@@ -20,6 +21,19 @@ pub struct SpacesSlots {
     pub(crate) nssid: Slot<Counted<i32, 32>>,
 }
 
+// Functions of their own, so that other lines make no room for a list.
+fn put_groups(slot: &mut Slot<Counted<u32, 128>>, text: &str)
+    ensures { slot.new ≡ Some (groups_of text.now) }
+{
+    *slot = Some(groups(text));
+}
+
+fn put_spaces(slot: &mut Slot<Counted<i32, 32>>, text: &str)
+    ensures { slot.new ≡ Some (spaces_of text.now) }
+{
+    *slot = Some(spaces(text));
+}
+
 impl SpacesSlots {
     // After a line that sets the field `number`.
     pub(crate) fn next(&mut self, number: u8, text: &str)
@@ -27,11 +41,11 @@ impl SpacesSlots {
     {
         match number {
             17 => self.fdsize = Some(figure(text, Radix::Decimal)),
-            18 => self.groups = Some(groups(text)),
-            19 => self.nstgid = Some(spaces(text)),
-            20 => self.nspid = Some(spaces(text)),
-            21 => self.nspgid = Some(spaces(text)),
-            22 => self.nssid = Some(spaces(text)),
+            18 => put_groups(&mut self.groups, text),
+            19 => put_spaces(&mut self.nstgid, text),
+            20 => put_spaces(&mut self.nspid, text),
+            21 => put_spaces(&mut self.nspgid, text),
+            22 => put_spaces(&mut self.nssid, text),
             _ => {}
         }
     }

@@ -6,7 +6,7 @@ use Rattle.sources.proofs.Cut.{no_word, a_word, word_boundary}
 use Rattle.sources.proofs.words.next_word.Goals as goal
 
 pub returns-then-is_empty : goal.returns-then-is_empty
-returns-then-is_empty c = no_word c.args.text.now c.trim_ascii_start-rest.result.now c.trim_ascii_start-rest.ensures.value (sym c.if-is_empty.ensures)
+returns-then-is_empty c = sym c.past_gap.ensures ∙ no_word c.past_gap.result.now c.trim_ascii_start-rest.result.now c.trim_ascii_start-rest.ensures.value (sym c.if-is_empty.ensures)
 
 pub split_at-requires : goal.split_at-requires
 split_at-requires c =
@@ -18,5 +18,5 @@ pub returns : goal.returns
 returns c =
     let r = c.trim_ascii_start-rest.result.now in
     let e = c.word_len-n.ensures ∙ ap (prefix_len in_word) c.as_bytes.ensures.value in
-    a_word c.args.text.now r _ _ c.trim_ascii_start-rest.ensures.value (sym c.if-is_empty.ensures)
+    sym c.past_gap.ensures ∙ a_word c.past_gap.result.now r _ _ c.trim_ascii_start-rest.ensures.value (sym c.if-is_empty.ensures)
     (c.split_at.ensures.front ∙ ap (λ n. take n r) e) (c.split_at.ensures.back ∙ ap (λ n. drop n r) e)
