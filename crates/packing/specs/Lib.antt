@@ -1,3 +1,4 @@
 pub mod Places
 pub mod Packed
 pub mod Calls
+pub mod Restored

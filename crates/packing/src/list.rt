@@ -1,9 +1,11 @@
-ghost use Rattle.std.specs.Prelude.{◌≡◌, Some};
+ghost use Rattle.std.specs.Prelude.{◌≡◌, Some, true};
 ghost use Rattle.sources.specs.Faults.{refused as refusal_of};
-ghost use Rattle.packing.specs.Calls.{new_list, charge, admit_refusal, remeasure_refusal, unknown_refusal, admit_of, remeasure_of, release_of, look_of, noted_of, note_in, bounds_in, note_of, bound_of};
+ghost use Rattle.packing.specs.Calls.{new_list, admit_refusal, remeasure_refusal, unknown_refusal, admit_of, remeasure_of, release_of, look_of, noted_of, note_in, bounds_in, note_of, bound_of};
 ghost use Rattle.packing.specs.Places.{used, found, with_news};
+ghost use Rattle.packing.specs.Restored.{kept_well, restored_of};
 
-use crate::place::{Bounds, News, Noted, Place, View};
+use crate::place::{Bounds, CAP, News, Noted, Place, View, charge};
+pub use crate::table::ROOM;
 use crate::table::Table;
 use kinds::limits_text::read_limits;
 use kinds::measure::Closed;
@@ -16,9 +18,6 @@ use status::record::Status;
 use status::state::ProcState;
 use std::marker::Model;
 
-// The most that one charge may be, 2 to the 56th.
-const CAP: u128 = 72057594037927936;
-
 // A list of the jobs that share a machine.
 #[derive(Drop)]
 pub struct PackingList {
@@ -27,22 +26,15 @@ pub struct PackingList {
 }
 
 impl Model for PackingList {
+    ghost use Rattle.std.specs.Prelude.{◌≡◌, true};
     ghost use Rattle.packing.specs.Packed.{Packing};
-    ghost use Rattle.packing.specs.Places.{Capped};
+    ghost use Rattle.packing.specs.Restored.{kept_well};
 
     ghost Value = { Packing };
 
     ghost view = { λ l. record { limit = l.limit; places = l.table.places } };
 
-    ghost invariant = { λ l. Capped l.table.places };
-}
-
-// What a measure is charged with a headroom.
-fn charge(headroom: u64, measure: &Closed) -> u128
-    ensures { result ≡ charge headroom measure.now }
-{
-    let totals = measure.totals();
-    u128::from(totals.pss) + u128::from(totals.swap_pss) + u128::from(headroom)
+    ghost invariant = { λ l. kept_well l.table.places ≡ true };
 }
 
 // A refusal of the list's own: it is of no line and no field.
@@ -98,7 +90,7 @@ fn read_bounds<S: Source>(source: &mut S) -> Result<Bounds, Refusal>
 
 impl PackingList {
     // Whether a measure may be admitted, or why not.
-    #[tactic(auto, unfolding(crate::specs::Calls::admit_refusal, crate::specs::Calls::first))]
+    #[tactic(auto, unfolding(crate::specs::Calls::admit_refusal, crate::specs::Calls::first), using(crate::proofs::Caps::capped_kept))]
     fn admit_refusal(&self, pid: i32, headroom: u64, measure: &Closed) -> Option<Refusal>
         ensures { result ≡ admit_refusal pid headroom measure.now self.now }
     {
@@ -108,7 +100,7 @@ impl PackingList {
         if self.table.find(pid).is_some() {
             return refused(Reason::Present);
         }
-        let charge = charge(headroom, measure);
+        let charge = charge(headroom, &measure.totals());
         if charge > CAP {
             return refused(Reason::Heavy);
         }
@@ -125,7 +117,7 @@ impl PackingList {
         None
     }
     // Whether a job may be charged anew, or why not.
-    #[tactic(auto, unfolding(crate::specs::Calls::remeasure_refusal, crate::specs::Calls::first), using(crate::proofs::Caps::found_le_used, crate::proofs::Caps::found_capped))]
+    #[tactic(auto, unfolding(crate::specs::Calls::remeasure_refusal, crate::specs::Calls::first), using(crate::proofs::Caps::capped_kept, crate::proofs::Caps::found_le_used, crate::proofs::Caps::found_capped))]
     fn remeasure_refusal(&self, pid: i32, measure: &Closed) -> Option<Refusal>
         ensures { result ≡ remeasure_refusal pid measure.now self.now }
     {
@@ -135,7 +127,7 @@ impl PackingList {
         let Some(place) = self.table.find(pid) else {
             return refused(Reason::Unknown);
         };
-        let charge = charge(place.headroom, measure);
+        let charge = charge(place.headroom, &measure.totals());
         if charge > CAP {
             return refused(Reason::Heavy);
         }
@@ -161,7 +153,7 @@ impl PackingList {
     }
 
     // A list that no job is in.
-    #[tactic(auto, using(crate::proofs::Caps::capped_new))]
+    #[tactic(auto, using(crate::proofs::Kept::kept_new))]
     pub fn new(limit: u64) -> PackingList
         ensures { result ≡ new_list limit }
     {
@@ -169,7 +161,27 @@ impl PackingList {
         PackingList { limit, table }
     }
 
+    // The list of a limit and places, where calls could have left these.
+    pub fn restored(limit: u64, places: [Option<Place>; ROOM]) -> Option<PackingList>
+        ensures { result ≡ restored_of limit places }
+    {
+        let table = Table { places };
+        if !table.is_kept_well() {
+            return None;
+        }
+        Some(PackingList { limit, table })
+    }
+
+    // The places: restored accepts them.
+    pub fn places(&self) -> &[Option<Place>; ROOM]
+        ensures lent { result.now ≡ self.now.places }
+        ensures kept { kept_well self.now.places ≡ true }
+    {
+        &self.table.places
+    }
+
     // The sum of the charges.
+    #[tactic(auto, using(crate::proofs::Caps::capped_kept))]
     pub fn used(&self) -> u64
         ensures { result ≡ used self.now.places }
     {
@@ -209,7 +221,6 @@ impl PackingList {
         Ok(())
     }
 
-    #[tactic(auto, using(crate::proofs::Caps::capped_note))]
     // Keeps what a status text of a job tells.
     pub fn note<S: Source>(&mut self, pid: i32, source: &mut S) -> Result<(), Refusal>
         ensures { (result, self.new, S.text source.new) ≡ note_of pid (S.text source.old) self.old }
@@ -222,7 +233,7 @@ impl PackingList {
         Ok(())
     }
 
-    #[tactic(auto, using(crate::proofs::Caps::capped_bound))]
+    #[tactic(auto, using(crate::proofs::Kept::kept_bound))]
     // Keeps what a limits text of a job tells.
     pub fn bound<S: Source>(&mut self, pid: i32, source: &mut S) -> Result<(), Refusal>
         ensures { (result, self.new, S.text source.new) ≡ bound_of pid (S.text source.old) self.old }
@@ -236,7 +247,7 @@ impl PackingList {
     }
 
     // Frees the place of a job.
-    #[tactic(auto, using(crate::proofs::Caps::capped_without))]
+    #[tactic(auto, using(crate::proofs::Kept::kept_without))]
     pub fn release(&mut self, pid: i32) -> Result<(), Refusal>
         ensures { (result, self.new) ≡ release_of pid self.old }
     {

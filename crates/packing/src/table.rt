@@ -1,5 +1,6 @@
 ghost use Rattle.std.specs.Prelude.{◌≡◌};
 ghost use Rattle.packing.specs.Places.{no_places, Capped, used, spot, free, found, with_place, with_news, without};
+ghost use Rattle.packing.specs.Restored.{can_stand, kept_well};
 
 use crate::place::{News, Place};
 
@@ -10,6 +11,27 @@ pub const ROOM: usize = 64;
 #[derive(Drop)]
 pub struct Table {
     pub places: [Option<Place>; ROOM],
+}
+
+// Where a job stands.
+#[tactic(auto, unfolding(crate::specs::Places::spot))]
+fn spot(places: &[Option<Place>], pid: i32) -> Option<usize>
+    ensures { result ≡ spot pid places.now }
+{
+    places
+        .iter()
+        .position(|slot| slot.is_some_and(|place| place.pid == pid))
+}
+
+// Whether what stands on a place can stand before others: a job has one place.
+#[tactic(auto, unfolding(crate::specs::Restored::can_stand))]
+fn can_stand(slot: &Option<Place>, others: &[Option<Place>]) -> bool
+    ensures { result ≡ can_stand slot.now others.now }
+{
+    match slot {
+        None => true,
+        Some(place) => place.can_be_kept() && spot(others, place.pid).is_none(),
+    }
 }
 
 impl Table {
@@ -36,16 +58,6 @@ impl Table {
         sum
     }
 
-    // Where a job stands.
-    #[tactic(auto, unfolding(crate::specs::Places::spot))]
-    fn spot(&self, pid: i32) -> Option<usize>
-        ensures { result ≡ spot pid self.now.places }
-    {
-        self.places
-            .iter()
-            .position(|slot| slot.is_some_and(|place| place.pid == pid))
-    }
-
     // The first place that is free.
     #[tactic(auto, unfolding(crate::specs::Places::free))]
     pub fn free(&self) -> Option<usize>
@@ -59,7 +71,7 @@ impl Table {
     pub fn find(&self, pid: i32) -> Option<Place>
         ensures { result ≡ found pid self.now.places }
     {
-        self.places[self.spot(pid)?]
+        self.places[spot(&self.places, pid)?]
     }
 
     // Takes the first free place for a job, where there is one.
@@ -77,7 +89,7 @@ impl Table {
     pub fn learn(&mut self, pid: i32, news: News)
         ensures { self.new.places ≡ with_news pid news self.old.places }
     {
-        if let Some(i) = self.spot(pid) {
+        if let Some(i) = spot(&self.places, pid) {
             if let Some(place) = &mut self.places[i] {
                 place.learn(news);
             }
@@ -89,8 +101,23 @@ impl Table {
     pub fn clear(&mut self, pid: i32)
         ensures { self.new.places ≡ without pid self.old.places }
     {
-        if let Some(i) = self.spot(pid) {
+        if let Some(i) = spot(&self.places, pid) {
             self.places[i] = None;
         }
+    }
+
+    // Whether calls could have left these places.
+    #[tactic(auto, unfolding(crate::specs::Restored::kept_well))]
+    pub fn is_kept_well(&self) -> bool
+        ensures { result ≡ kept_well self.now.places }
+    {
+        let mut rest = &self.places[..];
+        while let Some((slot, others)) = rest.split_first() {
+            if !can_stand(slot, others) {
+                return false;
+            }
+            rest = others;
+        }
+        true
     }
 }
