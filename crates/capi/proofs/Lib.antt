@@ -1,0 +1,4 @@
+pub mod Maps
+pub mod Texts
+pub mod Back
+pub mod Next
