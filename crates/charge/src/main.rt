@@ -9,9 +9,15 @@ ghost use Rattle.std.specs.Process.{exit_status};
 ghost use Rattle.charge.specs.Report.{report_of, line_of, status_of};
 
 use report::{Charged, LONGEST, Refused, charge};
-use std::io;
 use std::io::{Read, Write};
 use std::process::ExitCode;
+use std::{env, io};
+
+const USAGE: &str =
+    "charge < FILE       measures the smaps text on standard input, and prints one line: its figures, or
+                    the number and line of the refusal; the exit status is 0 or 1
+charge --help       this text
+";
 
 // One byte more than an input may have.
 const ROOM: usize = LONGEST + 1;
@@ -70,5 +76,14 @@ fn run<R: Read, W: Write>(input: &mut R, output: &mut W) -> io::Result<ExitCode>
 }
 
 fn main(rt: HostRuntime) -> anyhow::Result<ExitCode> {
-    Ok(run(&mut rt.stdin(), &mut io::writer(&rt))?)
+    let mut args = env::args(&rt)?.skip(1);
+    let Some(first) = args.next() else {
+        return Ok(run(&mut rt.stdin(), &mut io::writer(&rt))?);
+    };
+    if first.as_str() == "--help" && args.next().is_none() {
+        print!(rt; "{USAGE}")?;
+        return Ok(ExitCode::SUCCESS);
+    }
+    eprint!(rt; "{USAGE}")?;
+    Ok(ExitCode::from(2))
 }

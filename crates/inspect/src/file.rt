@@ -1,24 +1,11 @@
 // Files, and the texts that they hold.
-ghost use Rattle.sources.specs.Given.{Given};
-ghost use Rattle.inspect.specs.declared.file.Input.TheVariants.{Plain, Recording};
-
 use crate::trouble::Trouble;
-use sources::fault::Refusal;
-use sources::held::Held;
-use sources::source::{Piece, Source};
-use sources::spool::Spool;
+use sources::input::Form;
 use std::alloc::{AllocError, Global};
 use std::fs::File;
 use std::io;
 use std::io::Read;
 use std::rt::Files;
-
-// How a file holds a text: its bytes are the text, or a recording of it.
-#[derive(Clone, Copy)]
-pub enum Form {
-    Plain,
-    Recording,
-}
 
 // The file of a text.
 #[derive(Clone, Copy)]
@@ -57,33 +44,6 @@ pub fn read_file<'a>(
         Form::Recording => u64::MAX,
     };
     read_front(rt, file.path, most)
-}
-
-// A file's bytes as a source.
-#[derive(Drop)]
-pub enum Input<'a> {
-    Plain(Held<'a>),
-    Recording(Spool<'a>),
-}
-
-impl<'a> Input<'a> {
-    pub fn new(form: Form, bytes: &'a [u8]) -> Result<Input<'a>, Refusal> {
-        match form {
-            Form::Plain => Ok(Input::Plain(Held::new(bytes))),
-            Form::Recording => Ok(Input::Recording(Spool::new(bytes)?)),
-        }
-    }
-}
-
-impl<'a> Source for Input<'a> {
-    ghost text = { λ i. elim i [ Plain h ↦ ⟦<Held<'a> as Source>⟧.text h | Recording s ↦ ⟦<Spool<'a> as Source>⟧.text s ] };
-
-    fn piece(&mut self, buf: &mut [u8]) -> Piece {
-        match self {
-            Input::Plain(held) => held.piece(buf),
-            Input::Recording(spool) => spool.piece(buf),
-        }
-    }
 }
 
 // The text bytes of the records of a recording: byte 0 says how many there are, and they stand from byte 2 on.

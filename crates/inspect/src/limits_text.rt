@@ -1,9 +1,9 @@
 // Limits, a line each.
-use crate::file::{Form, Input};
 use crate::trouble::Trouble;
 use kinds::limits_text::read_limits;
 use limits::limit::{Limit, LimitValue};
 use limits::record::Limits;
+use sources::input::{Form, Input};
 use std::alloc::Global;
 use std::fmt;
 use std::fmt::{Display, Formatter};

@@ -16,14 +16,15 @@ mod support_text;
 mod trouble;
 
 use answer::answer;
+use refused::Refused;
 use request::{Request, USAGE, parse};
 use script::run_script;
 use std::env;
 use std::process::ExitCode;
 use std::rt::Files;
-use trouble::{Trouble, print_answer};
+use trouble::Trouble;
 
-// One request; whether it was answered.
+// One request; whether it was answered. A refusal goes to standard output, as an answer does.
 fn run_one(
     rt: &(impl Files + Print + Eprint + AllocGlobal),
     request: &Request<'_>,
@@ -33,26 +34,42 @@ fn run_one(
             print!(rt; "{text}")?;
             Ok(true)
         }
+        Err(Trouble::Refused(refusal)) => {
+            println!(rt; "{}", Refused(refusal))?;
+            Ok(false)
+        }
         Err(trouble) => {
-            print_answer(rt, &trouble)?;
+            eprintln!(rt; "{trouble}")?;
             Ok(false)
         }
     }
 }
 
-// What the arguments ask for; whether all went well.
-fn run(rt: &(impl Files + Print + Eprint + AllocGlobal), words: &[&str]) -> anyhow::Result<bool> {
+// The exit status of what went well or did not.
+fn status(well: bool) -> ExitCode {
+    if well {
+        ExitCode::SUCCESS
+    } else {
+        ExitCode::FAILURE
+    }
+}
+
+// What the arguments ask for.
+fn run(
+    rt: &(impl Files + Print + Eprint + AllocGlobal),
+    words: &[&str],
+) -> anyhow::Result<ExitCode> {
     match words {
         ["--help"] => {
             print!(rt; "{USAGE}")?;
-            Ok(true)
+            Ok(ExitCode::SUCCESS)
         }
-        ["script", path] => run_script(rt, path),
+        ["script", path] => Ok(status(run_script(rt, path)?)),
         _ => match parse(words) {
-            Some(request) => run_one(rt, &request),
+            Some(request) => Ok(status(run_one(rt, &request)?)),
             None => {
                 eprint!(rt; "{USAGE}")?;
-                Ok(false)
+                Ok(ExitCode::from(2))
             }
         },
     }
@@ -64,9 +81,5 @@ fn main(rt: HostRuntime) -> anyhow::Result<ExitCode> {
     for arg in args.as_slice() {
         words.push(arg.as_str())?;
     }
-    if run(&rt, words.as_slice())? {
-        Ok(ExitCode::SUCCESS)
-    } else {
-        Ok(ExitCode::FAILURE)
-    }
+    run(&rt, words.as_slice())
 }

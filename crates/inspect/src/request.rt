@@ -1,5 +1,6 @@
 // What may be asked for.
-use crate::file::{Form, TextFile};
+use crate::file::TextFile;
+use sources::input::Form;
 
 pub const USAGE: &str =
     "inspect rows [recording] FILE       the mappings of an smaps text, a line each
@@ -52,6 +53,19 @@ pub fn parse<'a>(words: &[&'a str]) -> Option<Request<'a>> {
             path,
             count: count.parse().ok()?,
         }),
+        _ => None,
+    }
+}
+
+// How a request of this name is written.
+pub fn form_of(name: &str) -> Option<&'static str> {
+    match name {
+        "rows" => Some("rows [recording] FILE"),
+        "status" => Some("status [recording] FILE"),
+        "limits" => Some("limits [recording] FILE"),
+        "target" => Some("target TEXT"),
+        "syscall" => Some("syscall FILE"),
+        "pages" => Some("pages FILE [COUNT]"),
         _ => None,
     }
 }

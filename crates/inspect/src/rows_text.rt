@@ -1,5 +1,5 @@
 // The mappings of a process, a line each, and a line of totals.
-use crate::file::{Form, Input, recorded_text};
+use crate::file::recorded_text;
 use crate::shown::Bytes;
 use crate::trouble::Trouble;
 use kinds::perms::MMPermissions;
@@ -7,6 +7,7 @@ use rows::entry::Entry;
 use rows::path::PathCell;
 use rows::read::read_rows;
 use rows::row::Row;
+use sources::input::{Form, Input};
 use std::alloc::Global;
 use std::fmt;
 use std::fmt::{Display, Formatter};

@@ -1,55 +1,103 @@
 // Requests from a file, one a line, their words between ASCII white space. A blank line is skipped, and so is one whose first word begins with `#`.
 use crate::answer::answer;
-use crate::request::{Request, parse};
+use crate::refused::Refused;
+use crate::request::{Request, form_of, parse};
 use crate::shown::Bytes;
-use crate::trouble::{Trouble, print_answer};
+use crate::trouble::Trouble;
 use std::alloc::{AllocError, Global};
-use std::fs;
+use std::fmt::{Display, Formatter};
 use std::rt::Files;
+use std::{fmt, fs};
 
 // A line with the request that it makes.
 #[derive(Clone, Copy)]
 struct Line<'a> {
+    number: u64,
     text: &'a str,
     request: Request<'a>,
 }
 
-// The lines of a script, or the number of the first that is no request.
+// What is wrong with a line.
+#[derive(Clone, Copy)]
+enum Mistake<'a> {
+    Utf8,
+    Unknown(&'a str),
+    // How the request is written.
+    Usage(&'static str),
+}
+
+impl Display for Mistake<'_> {
+    fn fmt<W: fmt::Write>(&self, f: &mut Formatter<W>) -> fmt::Result {
+        match self {
+            Mistake::Utf8 => f.write_str("the line is not UTF-8"),
+            Mistake::Unknown(word) => write!(
+                f,
+                "no request is named `{}`; `inspect --help` says what there is",
+                Bytes(word.as_bytes())
+            ),
+            Mistake::Usage(form) => write!(f, "the request is written `{form}`"),
+        }
+    }
+}
+
+// The request that the words of a line make; none of a blank line and of a remark.
+fn read_words<'a>(words: &[&'a str]) -> Result<Option<Request<'a>>, Mistake<'a>> {
+    let [first, ..] = words else {
+        return Ok(None);
+    };
+    if first.starts_with('#') {
+        return Ok(None);
+    }
+    match (parse(words), form_of(first)) {
+        (Some(request), _) => Ok(Some(request)),
+        (None, Some(form)) => Err(Mistake::Usage(form)),
+        (None, None) => Err(Mistake::Unknown(first)),
+    }
+}
+
+// The lines of a script, or the first that is wrong.
 #[derive(Drop)]
 enum Script<'a> {
     Lines(Vec<Line<'a>>),
-    Wrong(u64),
+    Wrong { number: u64, mistake: Mistake<'a> },
 }
 
-fn read_script<'a>(alloc: Global, text: &'a str) -> Result<Script<'a>, AllocError> {
+fn read_script<'a>(alloc: Global, text: &'a [u8]) -> Result<Script<'a>, AllocError> {
     let mut lines = Vec::new(alloc);
     let mut number = 0u64;
-    for text in text.lines() {
+    for line in text.split(|b| *b == b'\n') {
         number = number.saturating_add(1);
+        let Ok(text) = str::from_utf8(line) else {
+            let mistake = Mistake::Utf8;
+            return Ok(Script::Wrong { number, mistake });
+        };
         let words: Vec<&'a str> = text.split_ascii_whitespace().collect(alloc)?;
-        match words.as_slice() {
-            [] => {}
-            [first, ..] if first.starts_with('#') => {}
-            words => match parse(words) {
-                Some(request) => lines.push(Line { text, request })?,
-                None => return Ok(Script::Wrong(number)),
-            },
+        match read_words(words.as_slice()) {
+            Ok(Some(request)) => lines.push(Line {
+                number,
+                text: text.trim_ascii(),
+                request,
+            })?,
+            Ok(None) => {}
+            Err(mistake) => return Ok(Script::Wrong { number, mistake }),
         }
     }
     Ok(Script::Lines(lines))
 }
 
-// Answers a line; false where it is neither answered nor refused.
+// Answers a line of the script of this name; false where it is neither answered nor refused.
 fn run_line(
     rt: &(impl Files + Print + Eprint + AllocGlobal),
+    name: &str,
     line: &Line<'_>,
 ) -> anyhow::Result<bool> {
     println!(rt; "{}:", Bytes(line.text.as_bytes()))?;
     match answer(rt, &line.request) {
         Ok(text) => print!(rt; "{text}")?,
+        Err(Trouble::Refused(refusal)) => println!(rt; "{}", Refused(refusal))?,
         Err(trouble) => {
-            print_answer(rt, &trouble)?;
-            return Ok(matches!(trouble, Trouble::Refused(_)));
+            eprintln!(rt; "{name}:{}: {trouble}", line.number)?;
+            return Ok(false);
         }
     }
     Ok(true)
@@ -58,11 +106,12 @@ fn run_line(
 // Answers all lines; false where one was neither answered nor refused.
 fn run_lines(
     rt: &(impl Files + Print + Eprint + AllocGlobal),
+    name: &str,
     lines: &[Line<'_>],
 ) -> anyhow::Result<bool> {
     let mut good = true;
     for line in lines {
-        if !run_line(rt, line)? {
+        if !run_line(rt, name, line)? {
             good = false;
         }
     }
@@ -74,17 +123,17 @@ pub fn run_script(
     rt: &(impl Files + Print + Eprint + AllocGlobal),
     path: &str,
 ) -> anyhow::Result<bool> {
-    let text = match fs::read_to_string(rt, path) {
+    let text = match fs::read(rt, path) {
         Ok(text) => text,
         Err(error) => {
             eprintln!(rt; "{path} can't be read: {error}")?;
             return Ok(false);
         }
     };
-    match read_script(rt.alloc(), text.as_str())? {
-        Script::Lines(lines) => run_lines(rt, lines.as_slice()),
-        Script::Wrong(number) => {
-            eprintln!(rt; "{path}:{number}: no request; `inspect --help` says what there is")?;
+    match read_script(rt.alloc(), text.as_slice())? {
+        Script::Lines(lines) => run_lines(rt, path, lines.as_slice()),
+        Script::Wrong { number, mistake } => {
+            eprintln!(rt; "{path}:{number}: {mistake}")?;
             Ok(false)
         }
     }

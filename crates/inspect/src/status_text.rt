@@ -1,9 +1,9 @@
 // The fields of a status, a line each.
-use crate::file::{Form, Input};
 use crate::shown::{Bytes, OrDash};
 use crate::trouble::Trouble;
 use fields::counted::{Counted, Text};
 use kinds::status_text::read_status;
+use sources::input::{Form, Input};
 use status::record::Status;
 use std::alloc::Global;
 use std::fmt;
@@ -42,6 +42,25 @@ impl Display for Word {
     }
 }
 
+#[derive(Clone, Copy)]
+struct Kilobytes(u64);
+
+impl Display for Kilobytes {
+    fn fmt<W: fmt::Write>(&self, f: &mut Formatter<W>) -> fmt::Result {
+        write!(f, "{} kB", self.0)
+    }
+}
+
+// Signals that are queued, and how many may be.
+#[derive(Clone, Copy)]
+struct Queue(u64, u64);
+
+impl Display for Queue {
+    fn fmt<W: fmt::Write>(&self, f: &mut Formatter<W>) -> fmt::Result {
+        write!(f, "{}/{}", self.0, self.1)
+    }
+}
+
 // A range, by its first and its last, or the one number that it has.
 #[derive(Clone, Copy)]
 struct Span(u32, u32);
@@ -57,13 +76,26 @@ impl Display for Span {
     }
 }
 
+// The length of the longest name of a field.
+const LONGEST: usize = 26;
+
+// The name of a field, filled up so that the values stand in one column.
+fn put_name<W: fmt::Write>(f: &mut Formatter<W>, name: &str) -> fmt::Result {
+    write!(f, "{name}:")?;
+    for _i in name.len()..LONGEST {
+        f.write_str(" ")?;
+    }
+    Ok(())
+}
+
 // A line of a field.
 fn put<W: fmt::Write, D: Display + Drop>(
     f: &mut Formatter<W>,
     name: &str,
     value: D,
 ) -> fmt::Result {
-    write!(f, "{name}: {value}\n")
+    put_name(f, name)?;
+    write!(f, " {value}\n")
 }
 
 fn put_text<W: fmt::Write>(f: &mut Formatter<W>, name: &str, text: &Text) -> fmt::Result {
@@ -74,7 +106,7 @@ fn items<T: Copy, const N: usize>(list: &Option<Counted<T, N>>) -> Option<&[T]> 
     list.as_ref().map(Counted::items)
 }
 
-// A line of a list, with a space before each item as `shown` has it, or `-` where there is none.
+// A line of a list, its items as `shown` has them, or `-` where there is none.
 fn put_list<W: fmt::Write, T, D: Display + Drop, F: Fn(&T) -> D>(
     f: &mut Formatter<W>,
     name: &str,
@@ -83,16 +115,17 @@ fn put_list<W: fmt::Write, T, D: Display + Drop, F: Fn(&T) -> D>(
 ) -> fmt::Result
     requires { F.IsAlwaysCallable shown }
 {
-    write!(f, "{name}:")?;
     match list {
+        Some([]) => write!(f, "{name}:\n"),
         Some(items) => {
+            put_name(f, name)?;
             for item in items {
                 write!(f, " {}", shown(item))?;
             }
+            f.write_str("\n")
         }
-        None => f.write_str(" -")?,
+        None => put(f, name, "-"),
     }
-    f.write_str("\n")
 }
 
 fn put_ids<W: fmt::Write>(f: &mut Formatter<W>, s: &Status) -> fmt::Result {
@@ -150,17 +183,14 @@ fn put_memory<W: fmt::Write>(f: &mut Formatter<W>, s: &Status) -> fmt::Result {
         ("vmswap", s.vmswap),
         ("hugetlbpages", s.hugetlbpages),
     ] {
-        match size {
-            Some(size) => write!(f, "{name}: {size} kB\n")?,
-            None => write!(f, "{name}: -\n")?,
-        }
+        put(f, name, OrDash(size.map(Kilobytes)))?;
     }
     Ok(())
 }
 
 fn put_signals<W: fmt::Write>(f: &mut Formatter<W>, s: &Status) -> fmt::Result {
     put(f, "threads", s.threads)?;
-    write!(f, "sigq: {}/{}\n", s.sigq.0, s.sigq.1)?;
+    put(f, "sigq", Queue(s.sigq.0, s.sigq.1))?;
     for (name, mask) in [
         ("sigpnd", s.sigpnd),
         ("shdpnd", s.shdpnd),

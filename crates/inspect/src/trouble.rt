@@ -2,7 +2,8 @@
 use crate::refused::Refused;
 use sources::fault::Refusal;
 use std::alloc::{AllocError, AllocFailed};
-use std::io;
+use std::fmt::{Display, Formatter};
+use std::{fmt, io};
 
 #[derive(Debug, Drop)]
 pub enum Trouble<'a> {
@@ -29,11 +30,12 @@ impl<T: Drop> From<AllocFailed<T>> for Trouble<'_> {
     }
 }
 
-// A refusal is an answer, and goes to standard output; the others go to standard error.
-pub fn print_answer(rt: &(impl Print + Eprint), trouble: &Trouble<'_>) -> io::Result<()> {
-    match trouble {
-        Trouble::Refused(refusal) => println!(rt; "{}", Refused(*refusal)),
-        Trouble::Unread { path, error } => eprintln!(rt; "{path} can't be read: {error}"),
-        Trouble::Memory => eprintln!(rt; "out of memory"),
+impl Display for Trouble<'_> {
+    fn fmt<W: fmt::Write>(&self, f: &mut Formatter<W>) -> fmt::Result {
+        match self {
+            Trouble::Refused(refusal) => write!(f, "{}", Refused(*refusal)),
+            Trouble::Unread { path, error } => write!(f, "{path} can't be read: {error}"),
+            Trouble::Memory => f.write_str("out of memory"),
+        }
     }
 }

@@ -1,18 +1,11 @@
--- What the bytes of files mean, and the calls that a script asks for with them.
-use Rattle.std.specs.Prelude.{ℕ, List, [], ◌∷◌, false}
-use Rattle.sources.specs.Texts.{Text, text}
-use Rattle.sources.specs.Records.{records_of, text_of_records, ending_of}
+-- The calls that a script asks for with the bytes of its files.
+use Rattle.std.specs.Prelude.{ℕ, List, [], ◌∷◌}
+use Rattle.sources.specs.Texts.{Text}
+use Rattle.sources.specs.Inputs.{text_in}
 use Rattle.runs.specs.declared.call.Call.{Call}
 use Rattle.runs.specs.declared.call.Call.TheVariants.{Used}
 use Rattle.runs.specs.Run.{textual}
-use Rattle.packlist.specs.declared.input.Form.{Form}
-use Rattle.packlist.specs.declared.input.Form.TheVariants.{Plain, Recording}
 use Rattle.packlist.specs.declared.script.TextFile.{TextFile}
-
--- The text itself, whole; or the one that was recorded, with its ending.
-abbrev pub text_in : Form → List ℕ → Text
-text_in Plain bytes = text bytes false
-text_in Recording bytes = text (text_of_records (records_of bytes)) (ending_of (records_of bytes))
 
 -- A call whose file holds these bytes.
 abbrev pub call_with : List ℕ → Call TextFile → Call Text

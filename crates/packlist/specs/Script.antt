@@ -10,7 +10,7 @@ use Rattle.sources.specs.declared.number.Radix.TheVariants.{Decimal}
 use Rattle.sources.specs.Pieces.{bytes_of, case_of}
 use Rattle.runs.specs.declared.call.Call.{Call}
 use Rattle.runs.specs.declared.call.Call.TheVariants.{Measure, Admit, Remeasure, Note, Bound, Release, Look, Used}
-use Rattle.packlist.specs.declared.input.Form.TheVariants.{Plain, Recording}
+use Rattle.sources.specs.declared.input.Form.TheVariants.{Plain, Recording}
 use Rattle.packlist.specs.declared.script.TextFile.{TextFile}
 use Rattle.packlist.specs.declared.script.Line.{Line}
 use Rattle.packlist.specs.declared.script.Limit.{Limit}

@@ -1,11 +1,12 @@
 // The files that a script names, and the calls with their texts.
 ghost use Rattle.std.specs.Prelude.{◌≡◌, IfOk, length, map, vec_len};
 ghost use Rattle.runs.specs.Run.{textual};
-ghost use Rattle.packlist.specs.Files.{text_in, call_with, calls_of};
+ghost use Rattle.sources.specs.Inputs.{text_in};
+ghost use Rattle.packlist.specs.Files.{call_with, calls_of};
 
-use crate::input::{Form, Input};
 use crate::script::{Fault, Line, Mistake, TextFile, at_line};
 use runs::call::Call;
+use sources::input::{Form, Input};
 use sources::source::Source;
 use std::alloc::Global;
 use std::fs::File;
@@ -66,7 +67,7 @@ pub fn read_texts<'a>(
 fn input<'a, 'b>(file: TextFile<'a>, bytes: &'b [u8]) -> Result<Input<'b>, Mistake<'a>>
     ensures { IfOk result (λ i. ⟦<Input<'b> as Source>⟧.text i ≡ text_in file.entry.form bytes.now) }
 {
-    Input::new(file.form, bytes).ok_or(Mistake::Spool(file.path))
+    Input::new(file.form, bytes).map_err(|_| Mistake::Spool(file.path))
 }
 
 // A call with a text in the place of its file.

@@ -3,8 +3,8 @@
 // The script is the file that the first argument names, or standard input where there is no argument or it is `-`. script.rt says what its lines are.
 #![tactic(auto)]
 
+mod asked;
 mod files;
-mod input;
 mod report;
 mod script;
 
@@ -13,8 +13,9 @@ ghost use Rattle.runs.specs.Run.{answers_of};
 ghost use Rattle.packlist.specs.Files.{call_with, calls_of};
 
 use anyhow::bail;
+use asked::{Asked, column};
 use files::{calls, read_texts};
-use report::{Room, Told, Words};
+use report::{Room, Told};
 use runs::call::Answer;
 use runs::run::{Memory, run};
 use script::{Fault, Script, parse};
@@ -29,7 +30,7 @@ const USAGE: &str =
                                        without SCRIPT, or where it is -, standard input
 packlist --help                        this text
 
-A script has a call a line:
+A script has a call a line; blank lines and those that begin with # are skipped:
 limit BYTES                            a list with this limit; the first call
 measure NAME [recording] FILE          measures an smaps text
 admit PID HEADROOM NAME                takes a job in, charged for that measure and a headroom
@@ -78,18 +79,16 @@ fn answered<'a>(
 
 fn print_answers(rt: &impl Print, script: &Script<'_>, answers: &[Answer]) -> anyhow::Result<()> {
     let limit = script.limit.bytes;
-    let none = Room { limit, used: 0 };
-    println!(rt; "{}: ok; {none}", Words(script.limit.words.as_slice()))?;
+    let column = column(script);
+    let asked = Asked::new(script.limit.words.as_slice(), column);
+    println!(rt; "{asked} ok; {}", Room { limit, used: 0 })?;
     for (line, pair) in script.lines.iter().zip(answers.chunks(2)) {
         let [answer, Answer::Total(used)] = pair else {
             bail!("a call was not answered");
         };
+        let asked = Asked::new(line.words.as_slice(), column);
         let room = Room { limit, used: *used };
-        println!(rt;
-            "{}: {}; {room}",
-            Words(line.words.as_slice()),
-            Told(*answer)
-        )?;
+        println!(rt; "{asked} {}; {room}", Told(*answer))?;
     }
     Ok(())
 }
@@ -103,34 +102,44 @@ fn print_fault(rt: &impl Eprint, name: &str, fault: &Fault<'_>) -> io::Result<()
     }
 }
 
-fn main(rt: HostRuntime) -> anyhow::Result<ExitCode> {
-    let mut args = env::args(&rt)?.skip(1);
-    let path = args.next();
-    let path = path.as_ref().map_or("-", |path| path.as_str());
-    if args.next().is_some() {
-        eprint!(rt; "{USAGE}")?;
-        return Ok(ExitCode::from(2));
-    }
-    if path == "--help" {
-        print!(rt; "{USAGE}")?;
-        return Ok(ExitCode::SUCCESS);
-    }
+// Runs the script in a file, and answers the exit status.
+fn run_file(
+    rt: &(impl Files + Input + Print + Eprint + AllocGlobal),
+    path: &str,
+) -> anyhow::Result<ExitCode> {
     let name = if path == "-" { "standard input" } else { path };
-    let text = match read_script(&rt, path) {
+    let text = match read_script(rt, path) {
         Ok(text) => text,
         Err(error) => {
             eprintln!(rt; "{name} can't be read: {error}")?;
             return Ok(ExitCode::FAILURE);
         }
     };
-    match answered(&rt, text.as_slice()) {
+    match answered(rt, text.as_slice()) {
         Ok((script, answers)) => {
-            print_answers(&rt, &script, answers.as_slice())?;
+            print_answers(rt, &script, answers.as_slice())?;
             Ok(ExitCode::SUCCESS)
         }
         Err(fault) => {
-            print_fault(&rt, name, &fault)?;
+            print_fault(rt, name, &fault)?;
             Ok(ExitCode::FAILURE)
         }
     }
+}
+
+fn main(rt: HostRuntime) -> anyhow::Result<ExitCode> {
+    let mut args = env::args(&rt)?.skip(1);
+    let first = args.next();
+    let first = first.as_ref().map_or("-", |word| word.as_str());
+    let alone = args.next().is_none();
+    if first == "--help" && alone {
+        print!(rt; "{USAGE}")?;
+        return Ok(ExitCode::SUCCESS);
+    }
+    let is_path = first == "-" || !first.starts_with('-');
+    if is_path && alone {
+        return run_file(&rt, first);
+    }
+    eprint!(rt; "{USAGE}")?;
+    Ok(ExitCode::from(2))
 }

@@ -1,6 +1,6 @@
-// The lines that are printed.
-ghost use Rattle.std.specs.Prelude.{Some};
-ghost use Rattle.packlist.specs.Report.{room_text, totals_text, refusal_text, limit_text, kilobytes_text, status_text, bounds_text, view_text, answer_text};
+// What is printed of an answer, and of what is used of a limit.
+ghost use Rattle.std.specs.Prelude.{◌≡◌, ◌<◌, ◌≤◌, ◌^◌, [], Some, MatchOption};
+ghost use Rattle.packlist.specs.Report.{readable, in_unit, size_text, room_text, totals_text, refusal_text, limit_text, kilobytes_text, status_text, bounds_text, view_text, answer_text};
 
 use kinds::measure::Figures;
 use limits::limit::LimitValue;
@@ -10,19 +10,50 @@ use sources::fault::Refusal;
 use std::fmt;
 use std::fmt::{Display, Formatter};
 
-// Words, with a space between two.
-#[derive(Clone, Copy)]
-pub struct Words<'a>(pub &'a [&'a str]);
+const KIB: u64 = 1 << 10;
 
-impl Display for Words<'_> {
+const MIB: u64 = 1 << 20;
+
+const GIB: u64 = 1 << 30;
+
+const TIB: u64 = 1 << 40;
+
+const PIB: u64 = 1 << 50;
+
+const EIB: u64 = 1 << 60;
+
+// The largest unit that a number of bytes has one of, and its name.
+fn unit_of(bytes: u64) -> Option<(u64, &'static str)>
+    ensures { MatchOption result (readable bytes ≡ []) (λ u. (0 < u.0) × (u.0 ≤ 2 ^ 60) × (readable bytes ≡ in_unit u.0 u.1.now bytes)) }
+{
+    match bytes {
+        EIB.. => Some((EIB, "EiB")),
+        PIB.. => Some((PIB, "PiB")),
+        TIB.. => Some((TIB, "TiB")),
+        GIB.. => Some((GIB, "GiB")),
+        MIB.. => Some((MIB, "MiB")),
+        KIB.. => Some((KIB, "KiB")),
+        _ => None,
+    }
+}
+
+// A number of bytes, and in parentheses the same for people.
+#[derive(Clone, Copy)]
+struct Size(u64);
+
+impl Display for Size {
+    ghost output = { λ s. Some (size_text s.0) };
+
     fn fmt<W: fmt::Write>(&self, f: &mut Formatter<W>) -> fmt::Result {
-        if let Some((first, others)) = self.0.split_first() {
-            f.write_str(first)?;
-            for word in others {
-                write!(f, " {word}")?;
+        let bytes = self.0;
+        match unit_of(bytes) {
+            Some((unit, name)) => {
+                let whole = bytes / unit;
+                let tenths = bytes % unit * 10 / unit;
+                write!(f, "{bytes} ({whole}.{tenths} {name})")
             }
+            None => write!(f, "{bytes}"),
         }
-        Ok(())
     }
 }
 
@@ -39,9 +70,9 @@ impl Display for Room {
     fn fmt<W: fmt::Write>(&self, f: &mut Formatter<W>) -> fmt::Result {
         let Room { limit, used } = *self;
         if used <= limit {
-            write!(f, "used {used}, left {}", limit - used)
+            write!(f, "used {}, left {}", Size(used), Size(limit - used))
         } else {
-            write!(f, "used {used}, over by {}", used - limit)
+            write!(f, "used {}, over by {}", Size(used), Size(used - limit))
         }
     }
 }
@@ -168,7 +199,7 @@ impl Display for Seen {
             "headroom {} {} charge {} {} {}",
             view.headroom,
             Totals(view.mappings, view.totals),
-            view.charge,
+            Size(view.charge),
             Status(view.noted),
             Limits(view.bounds)
         )
@@ -192,7 +223,7 @@ impl Display for Told {
                 write!(f, "{}, measure handed back", Refused(refusal))
             }
             Answer::Seen(view) => write!(f, "{}", Seen(view)),
-            Answer::Total(used) => write!(f, "{used}"),
+            Answer::Total(used) => write!(f, "{}", Size(used)),
         }
     }
 }

@@ -1,11 +1,11 @@
 // A script: a call a line, its words between ASCII white space. A blank line is skipped, and so is one whose first word begins with `#`.
 //
 //     limit BYTES
-//     measure NAME FILE
+//     measure NAME [recording] FILE
 //     admit PID HEADROOM NAME
 //     remeasure PID NAME
-//     note PID FILE
-//     bound PID FILE
+//     note PID [recording] FILE
+//     bound PID [recording] FILE
 //     release PID
 //     look PID
 //     used
@@ -18,8 +18,8 @@ ghost use Rattle.packlist.specs.Script.{IsScript, IsNoScript, asked, bytes_in, c
 ghost use Rattle.sources.specs.Pieces.{bytes_of};
 ghost use Rattle.sources.specs.Utf8.{is_utf8};
 
-use crate::input::Form;
 use runs::call::Call;
+use sources::input::Form;
 use sources::number::{FromStrRadix, Radix};
 use std::alloc::{AllocError, AllocFailed, Global};
 use std::error::Error;
@@ -80,11 +80,20 @@ pub struct Fault<'a> {
 impl fmt::Display for Mistake<'_> {
     fn fmt<W: fmt::Write>(&self, f: &mut fmt::Formatter<W>) -> fmt::Result {
         match self {
-            Mistake::Utf8 => f.write_str("not UTF-8"),
-            Mistake::Unknown(word) => write!(f, "no call is named `{word}`"),
+            Mistake::Utf8 => f.write_str("the line is not UTF-8"),
+            Mistake::Unknown(word) => write!(
+                f,
+                "no call is named `{word}`; `packlist --help` says what there is"
+            ),
             Mistake::Usage(form) => write!(f, "the call is written `{form}`"),
-            Mistake::Pid(word) => write!(f, "the pid `{word}` is no number of 32 bits"),
-            Mistake::Bytes(word) => write!(f, "`{word}` is no number of bytes that has 64 bits"),
+            Mistake::Pid(word) => write!(
+                f,
+                "`{word}` is no pid: that is a number from -2147483648 to 2147483647"
+            ),
+            Mistake::Bytes(word) => write!(
+                f,
+                "`{word}` is no number of bytes: that is digits alone, up to 18446744073709551615"
+            ),
             Mistake::NoLimit => f.write_str("no limit: the first call must be `limit BYTES`"),
             Mistake::SecondLimit => f.write_str("a second limit: only the first call is one"),
             Mistake::NoMeasure(name) => write!(f, "no measure above is named `{name}`"),

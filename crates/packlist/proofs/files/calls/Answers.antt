@@ -2,7 +2,7 @@ use Rattle.std.proofs.Common.{rules}
 use Rattle.std.proofs.lemmas.Slice.Zip.{Zip-more, either_empty_from_Zip}
 use Rattle.runs.specs.declared.call.Call.TheVariants.{Used}
 use Rattle.runs.specs.Run.{textual}
-use Rattle.packlist.specs.contracts.input.InputSource.TheImpl.{text-value}
+use Rattle.sources.specs.contracts.input.InputSource.TheImpl.{text-value}
 use Rattle.packlist.specs.Files.{call_with}
 use Rattle.packlist.proofs.Rows.{turn, done}
 use Rattle.packlist.proofs.files.calls.Goals as goal

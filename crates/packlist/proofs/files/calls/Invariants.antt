@@ -2,7 +2,7 @@ use Rattle.std.proofs.Common.{◌≡◌, ◌++◌, map}
 use Rattle.std.specs.Slice.Iter.{iter_rest}
 use Rattle.std.specs.Iterator.Adapters.{zip_first, zip_second}
 use Rattle.runs.specs.Run.{textual}
-use Rattle.packlist.specs.contracts.input.InputSource.TheImpl.{text-value}
+use Rattle.sources.specs.contracts.input.InputSource.TheImpl.{text-value}
 use Rattle.packlist.specs.Files.{call_with, calls_of}
 use Rattle.packlist.proofs.files.calls.Given as goal
 
