@@ -84,11 +84,7 @@ fn main() -> ExitCode {
         counts.compare(Sort::Huge, &text);
     }
     counts.print();
-    let whole = ours::keeps_short_cells();
-    if !whole {
-        println!("fewer than four cells are not answered by 255 and left unchanged");
-    }
-    if counts.otherwise == 0 && whole {
+    if counts.otherwise == 0 {
         ExitCode::SUCCESS
     } else {
         ExitCode::FAILURE
