@@ -161,7 +161,7 @@ impl PackingList {
         PackingList { limit, table }
     }
 
-    // The list of a limit and places, where calls could have left these.
+    // The list of a limit and places, where these are well kept.
     pub fn restored(limit: u64, places: [Option<Place>; ROOM]) -> Option<PackingList>
         ensures { result ≡ restored_of limit places }
     {

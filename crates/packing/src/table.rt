@@ -106,7 +106,7 @@ impl Table {
         }
     }
 
-    // Whether calls could have left these places.
+    // Whether these places are well kept: pids at least 1 and different, charges capped, letters of states.
     #[tactic(auto, unfolding(crate::specs::Restored::kept_well))]
     pub fn is_kept_well(&self) -> bool
         ensures { result ≡ kept_well self.now.places }

@@ -60,7 +60,7 @@ pub trait Close: Kind {
         ensures { result ≡ Self.Kind.rules.closed (Self.Kind.means self) };
 }
 
-// A kind that is closed where it stands: it is large, or writes to lent memory.
+// A kind that is closed where it stands: it writes to lent memory, which its owner goes on with.
 pub trait Finish: Kind {
     fn finish(&mut self) -> Result<Self::Closed, Fault>
         ensures closed { result ≡ Self.Kind.rules.closed (Self.Kind.means self.old) }
