@@ -1,11 +1,13 @@
-use Rattle.std.proofs.Common.{◌≡◌, ℕ, true, false, List, [], ◌∷◌, ◌++◌, length, take, drop, IsUtf8, sym, refl, ap, ◌∙◌, subst, append_assoc, append-nil, arith}
+use Rattle.std.proofs.Common.{◌≡◌, ℕ, suc, ◌<◌, get_or, true, false, List, [], ◌∷◌, ◌++◌, length, take, drop, IsUtf8, sym, refl, ap, ◌∙◌, subst, append_assoc, append-nil, arith}
 use lib.Utf8.{encode, encodes, scalar}
-use Rattle.std.specs.Char.{is_whitespace, is_not_whitespace}
-use Rattle.std.specs.Str.{NonePass, EmptyOrStartsWithPassing, EmptyOrEndsWithPassing, IsTrimStart, chars}
+use Rattle.std.specs.Char.{is_whitespace, is_not_whitespace, is_ascii_whitespace}
+use Rattle.std.specs.Str.{NonePass, EmptyOrStartsWithPassing, EmptyOrEndsWithPassing, IsTrimStart, IsTrimAsciiStart, IsAscii, chars}
+use Rattle.std.proofs.lemmas.Bool.Decides.{nat_tests}
 use Rattle.std.proofs.lemmas.Bool.{not-true, not-false}
-use Rattle.std.proofs.lemmas.List.{take-append-drop, take_at}
+use Rattle.std.proofs.lemmas.List.{take-append-drop, take_at, length-take-le, get_or-take}
+use Rattle.std.proofs.lemmas.Str.Ascii.{IsAscii-nil, IsAscii-cons}
 use Rattle.std.proofs.lemmas.Str.Pattern.{IsTrimResult}
-use Rattle.std.proofs.lemmas.Str.{encodes-append, encodes_same, encodes-chars, IsCharBoundary-at_seam, IsUtf8-take, IsUtf8-encode, chars-nil, chars_past_char}
+use Rattle.std.proofs.lemmas.Str.{encodes-append, encodes_same, encodes-chars, encodes-IsAscii, IsCharBoundary-at_seam, IsUtf8-take, IsUtf8-encode, chars-nil, chars_past_char}
 use Rattle.sources.specs.White.{trim_front, trim_back, keep, trim, trim_start}
 
 front_white : (ws xs : List ℕ) → NonePass is_not_whitespace ws → trim_front (ws ++ xs) ≡ trim_front xs
@@ -96,3 +98,42 @@ starts_is bs t ub ut h =
     let ws = h.2 in
     let e : bs ≡ encodes ws.0 ++ t = sym (rw (ws.1, h.1) (take-append-drop h.0 bs)) in
     behind bs t ws.0 ub ut ws.2 e h.3.0 h.3.1
+
+ascii_white : (c : ℕ) → is_ascii_whitespace c ≡ true → is_not_whitespace c ≡ false
+ascii_white c h = grind (arith, nat_tests)
+
+ascii_below : (c : ℕ) → is_ascii_whitespace c ≡ true → c < 128
+ascii_below c h = grind (arith, nat_tests)
+
+-- ASCII white bytes are white characters
+white_bytes : (ws : List ℕ) → ((i : ℕ) → i < length ws → is_ascii_whitespace (get_or ws i 0) ≡ true) → NonePass is_not_whitespace ws × IsAscii ws
+white_bytes [] h = (tt, IsAscii-nil)
+white_bytes (w ∷ ws) h =
+    let first = h 0 (omega arith) in
+    let rest = white_bytes ws (λ i l. h (suc i) (omega arith)) in
+    ((ascii_white w first, rest.0), IsAscii-cons w ws (ascii_below w first) rest.1)
+
+-- the characters of a text that begins with ASCII white bytes
+behind_ascii : (bs t : List ℕ) → IsUtf8 bs → IsUtf8 t → IsTrimAsciiStart bs t → (ws : List ℕ) × (NonePass is_not_whitespace ws) × (chars bs ≡ ws ++ chars t)
+behind_ascii bs t ub ut h =
+    let n = h.0 in
+    let ws = take n bs in
+    let long : length ws ≡ n = length-take-le n bs (omega (arith, h.2)) in
+    let white = white_bytes ws (λ i l. ap is_ascii_whitespace (get_or-take n bs i 0 (omega arith)) ∙ h.3 i (omega arith)) in
+    let whole : ws ++ t ≡ bs = ap (λ (x : List ℕ). ws ++ x) h.1 ∙ take-append-drop n bs in (
+      ws,
+      white.0,
+      encodes_same (chars bs) (ws ++ chars t)
+          (encodes-chars bs ub ∙ sym whole ∙ sym (encodes-append ws (chars t) ∙ rw (encodes-IsAscii ws white.1, encodes-chars t ut))),
+    )
+
+-- ASCII white bytes in front change nothing of what is trimmed
+pub trim_past : (bs t : List ℕ) → IsUtf8 bs → IsUtf8 t → IsTrimAsciiStart bs t → trim t ≡ trim bs
+trim_past bs t ub ut h =
+    let w = behind_ascii bs t ub ut h in
+    sym (ap (λ (x : List ℕ). encodes (trim_back (trim_front x))) w.2 ∙ ap (λ (x : List ℕ). encodes (trim_back x)) (front_white w.0 (chars t) w.1))
+
+pub trim_start_past : (bs t : List ℕ) → IsUtf8 bs → IsUtf8 t → IsTrimAsciiStart bs t → trim_start t ≡ trim_start bs
+trim_start_past bs t ub ut h =
+    let w = behind_ascii bs t ub ut h in
+    sym (ap (λ (x : List ℕ). encodes (trim_front x)) w.2 ∙ ap encodes (front_white w.0 (chars t) w.1))

@@ -1,4 +1,5 @@
-ghost use Rattle.std.specs.Prelude.{◌≡◌, ℕ, ◌+◌, ◌<◌, ◌≤◌, Bool, true, false, List, length};
+ghost use Rattle.std.specs.Prelude.{◌≡◌, ℕ, ◌+◌, ◌<◌, ◌≤◌, Bool, true, false, List, length, take, IsTrue, MatchOption};
+ghost use Rattle.std.specs.Str.{IsAscii, IsUtf8};
 ghost use Rattle.sources.specs.Came.{Came};
 ghost use Rattle.sources.specs.Editions.{NewerReadsSame};
 ghost use Rattle.sources.specs.Folded.{FoldsLines};
@@ -8,7 +9,7 @@ use crate::fault::{Refusal, at_line};
 use crate::kind::{Break, Close, Finish, Kind};
 use crate::reason::Reason;
 use crate::source::{Piece, Source};
-use std::str::from_utf8;
+use std::str::{from_utf8, from_utf8_unchecked};
 
 // The longest piece of a line, and the longest text.
 const MAX_LINE: usize = 4096;
@@ -70,6 +71,33 @@ fn next_line<S: Source>(source: &mut S, buf: &mut [u8]) -> Next
     }
 }
 
+// Whether all bytes of a block are ASCII. No byte ends the loop early, so that it compiles to steps over many bytes at a time.
+fn is_ascii(block: &[u8; 64]) -> bool
+    ensures { IsTrue result → IsAscii block.now }
+{
+    let mut wide = false;
+    for byte in block {
+        wide |= *byte >= 0x80;
+    }
+    !wide
+}
+
+// The first n bytes as text, where they are UTF-8. Most lines are short and ASCII, which one look at the first block tells.
+// What that block holds behind the line decides only which of the two ways is taken.
+fn line_text(buf: &[u8], n: usize) -> Option<&str>
+    requires { n ≤ length buf.now }
+    ensures { MatchOption result (¬ (IsUtf8 (take n buf.now))) (λ s. (s.now ≡ take n buf.now) × IsUtf8 (take n buf.now)) }
+{
+    if n <= 64 {
+        if let Some(block) = buf.first_chunk::<64>() {
+            if is_ascii(block) {
+                return Some(unsafe { from_utf8_unchecked(&buf[..n]) });
+            }
+        }
+    }
+    from_utf8(&buf[..n]).ok()
+}
+
 // Hands the lines of a text to a kind, and answers how many. The kind is to be closed then: by `read` and `fill`, or by a caller who closes it into memory of his own.
 // A loop that counts, and no iterator: each line stands in the one buffer, which an Iterator could not lend.
 pub fn lines<S: Source, K: Kind>(source: &mut S, kind: &mut K) -> Result<u32, Refusal>
@@ -95,9 +123,9 @@ pub fn lines<S: Source, K: Kind>(source: &mut S, kind: &mut K) -> Result<u32, Re
                 if past_cap(size, n) {
                     return Err(Refusal::new(Reason::LongText, taken + 1));
                 }
-                match from_utf8(&buf[0..n]) {
-                    Err(_) => return broke::<K>(taken),
-                    Ok(line) => at_line(kind.take(line), taken + 1)?,
+                match line_text(&buf, n) {
+                    None => return broke::<K>(taken),
+                    Some(line) => at_line(kind.take(line), taken + 1)?,
                 }
                 taken += 1;
                 size += n;

@@ -26,18 +26,26 @@ pub fn up_to(text: &str, at: char) -> &str
     cut(text, at).map_or(text, |(front, _)| front)
 }
 
+// The text without ASCII white space in front of it: values stand behind a tab and columns of spaces, which are passed byte by byte here.
+fn past_columns(text: &str) -> &str
+    ensures around { trim_of result.now ≡ trim_of text.now }
+    ensures front { trim_start_of result.now ≡ trim_start_of text.now }
+{
+    text.trim_ascii_start()
+}
+
 // The text without white space around it.
 pub fn trimmed(text: &str) -> &str
     ensures { result.now ≡ trim_of text.now }
 {
-    text.trim()
+    past_columns(text).trim()
 }
 
 // The text without white space in front of it.
 pub fn trimmed_start(text: &str) -> &str
     ensures { result.now ≡ trim_start_of text.now }
 {
-    text.trim_start()
+    past_columns(text).trim_start()
 }
 
 // What follows `front`, where the text begins with it.

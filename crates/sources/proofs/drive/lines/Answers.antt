@@ -1,4 +1,4 @@
-use Rattle.std.proofs.Common.{rules, ◌≡◌, ℕ, ◌-◌, length, take, Err, Result, IsUtf8, sym, refl, ap, ◌∙◌, subst, arith}
+use Rattle.std.proofs.Common.{rules, ◌≡◌, ℕ, length, Err, Result, IsUtf8, sym, refl, ap, ◌∙◌, subst, arith}
 use Rattle.std.proofs.lemmas.Result.{err_from_is_err_and}
 use Rattle.sources.specs.Lines.{course, leaves, walk, lines_of}
 use Rattle.sources.specs.Texts.{text}
@@ -52,31 +52,27 @@ returns-then-past_cap-2-clause-course g c =
     rw c.new-then-past_cap-2.ensures
     (comes_to g (goal.at.returns-then-past_cap-2-clause-course g c).After-next_line _ _ c.in-Line.ensures.1 (turn_past _ _ _ _ _ _ c.in-Line.ensures.0.0 (omega (arith, c.if-past_cap-2.ensures))))
 
--- the bytes that `from_utf8` reads are the line's
-front : (g : given.Over) (c : In-Line g) → take (c.in-Line.n - 0) c.next_line.new.buf ≡ take c.in-Line.n (g.S.Source.text c.loop-n.source).bytes
-front g c = let y : c.in-Line.n - 0 ≡ c.in-Line.n = omega arith in ap (λ (k : ℕ). take k c.next_line.new.buf) y ∙ c.in-Line.ensures.0.0.front
+pub returns-in-None-clause-course : goal.returns-in-None-clause-course
+returns-in-None-clause-course g c =
+    let q = c.in-Line.ensures.0.0.front in
+    rw c.broke-in-None.ensures
+    (comes_to g (goal.at.returns-in-None-clause-course g c).After-next_line _ _ c.in-Line.ensures.1 (turn_text _ _ _ _ _ _ c.in-Line.ensures.0 (omega (arith, c.if-past_cap-2.ensures)) (text_false _ (λ u. c.in-None.ensures (subst IsUtf8 (sym q) u)))))
 
-pub returns-in-Err-clause-course : goal.returns-in-Err-clause-course
-returns-in-Err-clause-course g c =
-    let q = front g (goal.at.returns-in-Err-clause-course g c).In-Line in
-    rw c.broke-in-Err.ensures
-    (comes_to g (goal.at.returns-in-Err-clause-course g c).After-next_line _ _ c.in-Line.ensures.1 (turn_text _ _ _ _ _ _ c.in-Line.ensures.0 (omega (arith, c.if-past_cap-2.ensures)) (text_false _ (λ u. c.in-Err.ensures.cases.0 (subst IsUtf8 (sym q) u)))))
-
-pub returns-in_err-at_line-in-Ok-clause-course : goal.returns-in_err-at_line-in-Ok-clause-course
-returns-in_err-at_line-in-Ok-clause-course g c =
-    let q = front g (goal.at.returns-in_err-at_line-in-Ok-clause-course g c).In-Line in
+pub returns-in_err-at_line-in-Some-clause-course : goal.returns-in_err-at_line-in-Some-clause-course
+returns-in_err-at_line-in-Some-clause-course g c =
+    let q = c.in-Line.ensures.0.0.front in
     let p = err_from_is_err_and c.from_residual.result c.from_residual.ensures.1 in
-    let e : c.from_residual.result ≡ Err c.in_err-at_line-in-Ok.field-0.0 = let a = p.1 in let b = p.2 in cc in
+    let e : c.from_residual.result ≡ Err c.in_err-at_line-in-Some.field-0.0 = let a = p.1 in let b = p.2 in cc in
     rw e
-    (comes_to g (goal.at.returns-in_err-at_line-in-Ok-clause-course g c).After-next_line _ _ c.in-Line.ensures.1
-    (turn_stopped _ _ _ _ _ _ c.in-Line.ensures.0 (omega (arith, c.if-past_cap-2.ensures)) (text_true _ (subst IsUtf8 q c.in-Ok.ensures.cases.1))
-    _ c.in-Ok.line.now _ _ (c.in-Ok.ensures.cases.0 ∙ q) c.take.ensures.next c.take.ensures.verdict c.at_line.ensures _ c.in_err-at_line-in-Ok.was))
+    (comes_to g (goal.at.returns-in_err-at_line-in-Some-clause-course g c).After-next_line _ _ c.in-Line.ensures.1
+    (turn_stopped _ _ _ _ _ _ c.in-Line.ensures.0 (omega (arith, c.if-past_cap-2.ensures)) (text_true _ (subst IsUtf8 q c.in-Some.ensures.1))
+    _ c.in-Some.line.now _ _ (c.in-Some.ensures.0 ∙ q) c.take.ensures.next c.take.ensures.verdict c.at_line.ensures _ c.in_err-at_line-in-Some.was))
 
 pub loop-n-preserved : goal.loop-n-preserved
 loop-n-preserved g c =
-    let q = front g (goal.at.loop-n-preserved g c).In-Line in
-    let t = turn_went 268435456 g.K.Kind.rules _ c.loop-n.taken c.loop-n.size (g.K.Kind.means c.loop-n.kind) c.in-Line.ensures.0 (omega (arith, c.if-past_cap-2.ensures)) (text_true _ (subst IsUtf8 q c.in-Ok.ensures.cases.1))
-    (g.K.Kind.means c.take.new.self) c.in-Ok.line.now c.take.result c.at_line.result (c.in-Ok.ensures.cases.0 ∙ q) c.take.ensures.next c.take.ensures.verdict c.at_line.ensures c.in_ok-at_line-in-Ok.field-0 c.in_ok-at_line-in-Ok.was in
+    let q = c.in-Line.ensures.0.0.front in
+    let t = turn_went 268435456 g.K.Kind.rules _ c.loop-n.taken c.loop-n.size (g.K.Kind.means c.loop-n.kind) c.in-Line.ensures.0 (omega (arith, c.if-past_cap-2.ensures)) (text_true _ (subst IsUtf8 q c.in-Some.ensures.1))
+    (g.K.Kind.means c.take.new.self) c.in-Some.line.now c.take.result c.at_line.result (c.in-Some.ensures.0 ∙ q) c.take.ensures.next c.take.ensures.verdict c.at_line.ensures c.in_ok-at_line-in-Some.field-0 c.in_ok-at_line-in-Some.was in
     let l = c.in-Line.ensures.0.0 in
     let i = c.loop-n.invariant.0 in
     let r = c.loop-n.invariant.3 in
