@@ -19,4 +19,5 @@ pub mod Trims
 pub mod Spaced
 pub mod Found
 pub mod Cut
+pub mod Low
 pub mod Folds
