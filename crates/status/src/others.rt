@@ -5,7 +5,7 @@ ghost use Rattle.status.specs.OthersFields.{fill_others, judged_others};
 
 use crate::record::Status;
 use fields::counted::{Counted, Text, copied};
-use fields::slot::{Slot, lenient, optional};
+use fields::slot::{Slot, set_lenient, set_optional};
 use fields::value::{figure, flag, mask, ranges};
 use sources::fault::Fault;
 use sources::number::Radix;
@@ -64,17 +64,29 @@ impl OthersSlots {
     pub(crate) fn judge(&self, status: &mut Status) -> Result<(), Fault>
         ensures { result_and result (Ok status.new) ≡ judged_others self.now status.old }
     {
-        status.nonewprivs = optional(51, self.nonewprivs)?;
-        status.seccomp = optional(52, self.seccomp)?;
-        status.speculation_store_bypass = optional(53, self.speculation_store_bypass)?;
-        status.cpus_allowed = optional(54, self.cpus_allowed)?;
-        status.cpus_allowed_list = lenient(55, self.cpus_allowed_list)?;
-        status.mems_allowed = optional(56, self.mems_allowed)?;
-        status.mems_allowed_list = lenient(57, self.mems_allowed_list)?;
-        status.voluntary_ctxt_switches = optional(58, self.voluntary_ctxt_switches)?;
-        status.nonvoluntary_ctxt_switches = optional(59, self.nonvoluntary_ctxt_switches)?;
-        status.core_dumping = optional(60, self.core_dumping)?;
-        status.thp_enabled = optional(61, self.thp_enabled)?;
+        set_optional(51, &self.nonewprivs, &mut status.nonewprivs)?;
+        set_optional(52, &self.seccomp, &mut status.seccomp)?;
+        set_optional(
+            53,
+            &self.speculation_store_bypass,
+            &mut status.speculation_store_bypass,
+        )?;
+        set_optional(54, &self.cpus_allowed, &mut status.cpus_allowed)?;
+        set_lenient(55, &self.cpus_allowed_list, &mut status.cpus_allowed_list)?;
+        set_optional(56, &self.mems_allowed, &mut status.mems_allowed)?;
+        set_lenient(57, &self.mems_allowed_list, &mut status.mems_allowed_list)?;
+        set_optional(
+            58,
+            &self.voluntary_ctxt_switches,
+            &mut status.voluntary_ctxt_switches,
+        )?;
+        set_optional(
+            59,
+            &self.nonvoluntary_ctxt_switches,
+            &mut status.nonvoluntary_ctxt_switches,
+        )?;
+        set_optional(60, &self.core_dumping, &mut status.core_dumping)?;
+        set_optional(61, &self.thp_enabled, &mut status.thp_enabled)?;
         Ok(())
     }
 }

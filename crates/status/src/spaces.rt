@@ -5,7 +5,7 @@ ghost use Rattle.status.specs.SpacesFields.{fill_spaces, judged_spaces};
 
 use crate::record::Status;
 use fields::counted::Counted;
-use fields::slot::{Slot, needed, optional};
+use fields::slot::{Slot, set_needed, set_optional};
 use fields::value::{figure, groups, spaces};
 use sources::fault::Fault;
 use sources::number::Radix;
@@ -54,12 +54,12 @@ impl SpacesSlots {
     pub(crate) fn judge(&self, status: &mut Status) -> Result<(), Fault>
         ensures { result_and result (Ok status.new) ≡ judged_spaces self.now status.old }
     {
-        status.fdsize = needed(17, self.fdsize)?;
-        status.groups = needed(18, self.groups)?;
-        status.nstgid = optional(19, self.nstgid)?;
-        status.nspid = optional(20, self.nspid)?;
-        status.nspgid = optional(21, self.nspgid)?;
-        status.nssid = optional(22, self.nssid)?;
+        set_needed(17, &self.fdsize, &mut status.fdsize)?;
+        set_needed(18, &self.groups, &mut status.groups)?;
+        set_optional(19, &self.nstgid, &mut status.nstgid)?;
+        set_optional(20, &self.nspid, &mut status.nspid)?;
+        set_optional(21, &self.nspgid, &mut status.nspgid)?;
+        set_optional(22, &self.nssid, &mut status.nssid)?;
         Ok(())
     }
 }
