@@ -3,7 +3,7 @@ ghost use Rattle.std.specs.Result.{result_and};
 ghost use Rattle.status.specs.IdsFields.{fill_ids, judged_ids};
 
 use crate::record::Status;
-use fields::counted::{Text, copied};
+use fields::counted::{Text, put_text};
 use fields::slot::{Slot, set_needed, set_optional};
 use fields::value::figure;
 use sources::fault::Fault;
@@ -28,9 +28,9 @@ impl IdsSlots {
         ensures { self.new ≡ fill_ids ((number, text.now) ∷ []) self.old }
     {
         match number {
-            1 => self.name = Some(Ok(copied(text))),
+            1 => put_text(&mut self.name, text),
             2 => self.umask = Some(figure(text, Radix::Octal)),
-            3 => self.state = Some(Ok(copied(text))),
+            3 => put_text(&mut self.state, text),
             4 => self.tgid = Some(figure(text, Radix::Decimal)),
             5 => self.ngid = Some(figure(text, Radix::Decimal)),
             6 => self.pid = Some(figure(text, Radix::Decimal)),

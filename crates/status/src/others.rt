@@ -4,7 +4,7 @@ ghost use Rattle.fields.specs.Values.{mask_of, ranges_of};
 ghost use Rattle.status.specs.OthersFields.{fill_others, judged_others};
 
 use crate::record::Status;
-use fields::counted::{Counted, Text, copied};
+use fields::counted::{Counted, Text, put_text};
 use fields::slot::{Slot, set_lenient, set_optional};
 use fields::value::{figure, flag, mask, ranges};
 use sources::fault::Fault;
@@ -47,7 +47,7 @@ impl OthersSlots {
         match number {
             51 => self.nonewprivs = Some(figure(text, Radix::Decimal)),
             52 => self.seccomp = Some(figure(text, Radix::Decimal)),
-            53 => self.speculation_store_bypass = Some(Ok(copied(text))),
+            53 => put_text(&mut self.speculation_store_bypass, text),
             54 => put_mask(&mut self.cpus_allowed, text),
             55 => put_ranges(&mut self.cpus_allowed_list, text),
             56 => put_mask(&mut self.mems_allowed, text),
