@@ -1,12 +1,11 @@
 ghost use Rattle.std.specs.Prelude.{◌≡◌, [], ◌∷◌};
 ghost use Rattle.std.specs.Result.{result_and};
-ghost use Rattle.fields.specs.Values.{mask_of, ranges_of};
 ghost use Rattle.status.specs.OthersFields.{fill_others, judged_others};
 
 use crate::record::Status;
 use fields::counted::{Counted, Text, put_text};
 use fields::slot::{Slot, set_lenient, set_optional};
-use fields::value::{figure, flag, mask, ranges};
+use fields::value::{figure, flag, put_mask, put_ranges};
 use sources::fault::Fault;
 use sources::number::Radix;
 
@@ -24,19 +23,6 @@ pub struct OthersSlots {
     pub(crate) nonvoluntary_ctxt_switches: Slot<u64>,
     pub(crate) core_dumping: Slot<bool>,
     pub(crate) thp_enabled: Slot<bool>,
-}
-
-// Functions of their own, so that other lines make no room for a list.
-fn put_mask(slot: &mut Slot<Counted<u32, 256>>, text: &str)
-    ensures { slot.new ≡ Some (mask_of text.now) }
-{
-    *slot = Some(mask(text));
-}
-
-fn put_ranges(slot: &mut Slot<Option<Counted<(u32, u32), 128>>>, text: &str)
-    ensures { slot.new ≡ Some (ranges_of text.now) }
-{
-    *slot = Some(ranges(text));
 }
 
 impl OthersSlots {
