@@ -41,16 +41,11 @@ pub fn set_optional<T: Copy>(field: u8, slot: &Slot<T>, place: &mut Option<T>) -
     ensures { result_and result (Ok place.new) ≡ optional_of field slot.now }
 {
     match slot {
-        None => {
-            *place = None;
-            Ok(())
-        }
-        Some(Ok(value)) => {
-            *place = Some(*value);
-            Ok(())
-        }
-        Some(Err(f)) => at_field(field, Err(*f)),
+        None => *place = None,
+        Some(Ok(value)) => *place = Some(*value),
+        Some(Err(f)) => return at_field(field, Err(*f)),
     }
+    Ok(())
 }
 
 // Sets a field that may be missing, or be there and count as missing.
@@ -61,15 +56,9 @@ pub fn set_lenient<T: Copy>(
 ) -> Result<(), Fault>
     ensures { result_and result (Ok place.new) ≡ lenient_of field slot.now }
 {
-    match slot {
-        None => {
-            *place = None;
-            Ok(())
-        }
-        Some(Ok(value)) => {
-            *place = *value;
-            Ok(())
-        }
-        Some(Err(f)) => at_field(field, Err(*f)),
+    if slot.is_none() {
+        *place = None;
+        return Ok(());
     }
+    set_needed(field, slot, place)
 }
