@@ -1,7 +1,8 @@
-ghost use Rattle.std.specs.Prelude.{◌≡◌, ◌≤◌, [], length, take, if◌then◌else◌, nat_lt};
+ghost use Rattle.std.specs.Prelude.{◌≡◌, ◌≤◌, [], length, take, if◌then◌else◌, nat_lt, Some, Ok};
 ghost use Rattle.fields.specs.Counted.{counted, with_item, kept_text};
 
 use crate::list::ListFault;
+use crate::slot::Slot;
 
 // The first n items, or all.
 fn front<T>(items: &[T], n: usize) -> &[T]
@@ -56,15 +57,14 @@ impl<T: Copy, const N: usize> Counted<T, N> {
     }
 }
 
-// The first 4096 bytes of a text, kept.
-pub fn copied(text: &str) -> Text
-    ensures { result ≡ kept_text text.now }
+// Puts the first 4096 bytes of a text into a slot, where they stand.
+pub fn put_text(slot: &mut Slot<Text>, text: &str)
+    ensures { slot.new ≡ Some (Ok (kept_text text.now)) }
 {
-    let kept = front(text.as_bytes(), 4096);
-    let mut cells = [0; 4096];
-    cells[..kept.len()].copy_from_slice(kept);
-    Counted {
-        cells,
-        len: kept.len(),
+    *slot = Some(Ok(Counted::default()));
+    if let Some(Ok(list)) = slot {
+        let kept = front(text.as_bytes(), 4096);
+        list.cells[..kept.len()].copy_from_slice(kept);
+        list.len = kept.len();
     }
 }

@@ -1,10 +1,13 @@
-ghost use Rattle.std.specs.Prelude.{◌≡◌};
+ghost use Rattle.std.specs.Prelude.{◌≡◌, [], Ok, Some};
+ghost use Rattle.std.specs.Result.{result_and};
 ghost use Rattle.std.specs.Iterator.{IsFinite, AlwaysYields};
 ghost use Rattle.sources.specs.Pieces.{bytes_of};
-ghost use Rattle.fields.specs.Lists.{bad_for, list_fault_for, IsFilled};
+ghost use Rattle.fields.specs.Counted.{counted};
+ghost use Rattle.fields.specs.Lists.{as_list, bad_for, filled, list_fault_for, IsFilled};
 
 use crate::counted::Counted;
 use crate::item::Item;
+use crate::slot::Slot;
 use sources::fault::{Fault, NumberFault};
 use sources::reason::Reason;
 
@@ -34,17 +37,35 @@ impl From<ListFault> for Fault {
     }
 }
 
-// The items that pieces of a text mean, at most N.
-pub fn read_list<'a, I: Item, P: Iterator<Item = &'a str> + Drop, const N: usize>(
+// Puts the items that pieces of a text mean into an empty list, at most N.
+pub(crate) fn fill_list<'a, I: Item, P: Iterator<Item = &'a str> + Drop, const N: usize>(
+    list: &mut Counted<I::Value, N>,
     pieces: P,
-) -> Result<Counted<I::Value, N>, ListFault>
+) -> Result<(), ListFault>
     requires can { P.can_next pieces }
     requires ends { IsFinite (P.remaining pieces) }
-    ensures { (texts : _) → AlwaysYields P.next_gives bytes_of pieces texts → IsFilled I.Value.is_default I.Item.reading N texts result }
+    requires empty { (blank : _) × I.Value.is_default blank × (list.old ≡ counted N blank []) }
+    ensures { (texts : _) → AlwaysYields P.next_gives bytes_of pieces texts → IsFilled I.Value.is_default I.Item.reading N texts (result_and result (Ok list.new)) }
 {
-    let mut list = Counted::default();
     for piece in pieces {
         list.push(I::read(piece)?)?;
     }
-    Ok(list)
+    Ok(())
+}
+
+// Puts a list of the items that pieces of a text mean into a slot, where it stands, or what is wrong with it.
+pub(crate) fn put_list<'a, I: Item, P: Iterator<Item = &'a str> + Drop, const N: usize>(
+    slot: &mut Slot<Counted<I::Value, N>>,
+    pieces: P,
+)
+    requires can { P.can_next pieces }
+    requires ends { IsFinite (P.remaining pieces) }
+    ensures { (texts : _) → AlwaysYields P.next_gives bytes_of pieces texts → (blank : _) × I.Value.is_default blank × (slot.new ≡ Some (as_list (filled I.Item.reading blank N texts))) }
+{
+    *slot = Some(Ok(Counted::default()));
+    if let Some(Ok(list)) = slot {
+        if let Err(fault) = fill_list::<I, P, N>(list, pieces) {
+            *slot = Some(Err(fault.into()));
+        }
+    }
 }

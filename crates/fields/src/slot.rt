@@ -1,4 +1,5 @@
-ghost use Rattle.std.specs.Prelude.{◌≡◌};
+ghost use Rattle.std.specs.Prelude.{◌≡◌, Ok};
+ghost use Rattle.std.specs.Result.{result_and};
 ghost use Rattle.fields.specs.Slots.{at_field, needed as needed_of, optional as optional_of, lenient as lenient_of};
 
 use sources::fault::Fault;
@@ -21,19 +22,43 @@ pub fn needed<T>(field: u8, slot: Slot<T>) -> Result<T, Fault>
     at_field(field, slot.ok_or(Fault::new(Reason::Absent)).flatten())
 }
 
-// A field that may be missing.
-pub fn optional<T>(field: u8, slot: Slot<T>) -> Result<Option<T>, Fault>
-    ensures { result ≡ optional_of field slot }
-{
-    at_field(field, slot.transpose())
-}
-
-// A field that may be missing, or be there and count as missing.
-pub fn lenient<T>(field: u8, slot: Slot<Option<T>>) -> Result<Option<T>, Fault>
-    ensures { result ≡ lenient_of field slot }
+// Sets a field that may not be missing.
+pub fn set_needed<T: Copy>(field: u8, slot: &Slot<T>, place: &mut T) -> Result<(), Fault>
+    ensures { result_and result (Ok place.new) ≡ needed_of field slot.now }
 {
     match slot {
-        None => Ok(None),
-        Some(r) => at_field(field, r),
+        None => at_field(field, Err(Fault::new(Reason::Absent))),
+        Some(Ok(value)) => {
+            *place = *value;
+            Ok(())
+        }
+        Some(Err(f)) => at_field(field, Err(*f)),
     }
+}
+
+// Sets a field that may be missing.
+pub fn set_optional<T: Copy>(field: u8, slot: &Slot<T>, place: &mut Option<T>) -> Result<(), Fault>
+    ensures { result_and result (Ok place.new) ≡ optional_of field slot.now }
+{
+    match slot {
+        None => *place = None,
+        Some(Ok(value)) => *place = Some(*value),
+        Some(Err(f)) => return at_field(field, Err(*f)),
+    }
+    Ok(())
+}
+
+// Sets a field that may be missing, or be there and count as missing.
+pub fn set_lenient<T: Copy>(
+    field: u8,
+    slot: &Slot<Option<T>>,
+    place: &mut Option<T>,
+) -> Result<(), Fault>
+    ensures { result_and result (Ok place.new) ≡ lenient_of field slot.now }
+{
+    if slot.is_none() {
+        *place = None;
+        return Ok(());
+    }
+    set_needed(field, slot, place)
 }

@@ -1,14 +1,15 @@
-ghost use Rattle.std.specs.Prelude.{◌≡◌};
+ghost use Rattle.std.specs.Prelude.{◌≡◌, Some};
 ghost use Rattle.std.specs.Option.{option_map};
 ghost use Rattle.sources.specs.Faults.{as_fault};
 ghost use Rattle.sources.specs.Pieces.{bytes_of};
 ghost use Rattle.sources.specs.White.{white_words};
-ghost use Rattle.fields.specs.Lists.{IsFilled};
+ghost use Rattle.fields.specs.Lists.{as_list, filled};
 ghost use Rattle.fields.specs.Values.{comma_parts, kilobytes_of, needed_word, four_of, pair_of, groups_of, spaces_of, mask_of, ranges_of, flag_of};
 
 use crate::counted::Counted;
 use crate::item::{Group, Item, Process, Range, Word};
-use crate::list::{ListFault, read_list};
+use crate::list::{ListFault, fill_list, put_list};
+use crate::slot::Slot;
 use sources::fault::Fault;
 use sources::number::{FromStrRadix, Radix, split_into_num};
 use sources::pieces::shorn;
@@ -68,49 +69,52 @@ pub fn pair(text: &str) -> Result<(u64, u64), Fault>
     split_into_num(text, '/', Radix::Decimal)
 }
 
-// A list of the items that the words of a text mean.
-fn words_list<I: Item, const N: usize>(text: &str) -> Result<Counted<I::Value, N>, ListFault>
-    ensures { IsFilled I.Value.is_default I.Item.reading N (white_words text.now) result }
+// Puts a list of the items that the words of a text mean into a slot.
+fn put_words<I: Item, const N: usize>(slot: &mut Slot<Counted<I::Value, N>>, text: &str)
+    ensures { (blank : _) × I.Value.is_default blank × (slot.new ≡ Some (as_list (filled I.Item.reading blank N (white_words text.now)))) }
 {
-    read_list::<I, _, N>(text.split_whitespace())
+    put_list::<I, _, N>(slot, text.split_whitespace());
 }
 
-// A list of the items between commas.
-fn commas_list<I: Item, const N: usize>(text: &str) -> Result<Counted<I::Value, N>, ListFault>
-    ensures { IsFilled I.Value.is_default I.Item.reading N (comma_parts text.now) result }
+// Puts a list of the items between commas into a slot.
+fn put_commas<I: Item, const N: usize>(slot: &mut Slot<Counted<I::Value, N>>, text: &str)
+    ensures { (blank : _) × I.Value.is_default blank × (slot.new ≡ Some (as_list (filled I.Item.reading blank N (comma_parts text.now)))) }
 {
-    read_list::<I, _, N>(text.split(','))
+    put_list::<I, _, N>(slot, text.split(','));
 }
 
-// The groups of a process.
-pub fn groups(text: &str) -> Result<Counted<u32, 128>, Fault>
-    ensures { result ≡ groups_of text.now }
+// Puts the groups of a process into a slot.
+pub fn put_groups(slot: &mut Slot<Counted<u32, 128>>, text: &str)
+    ensures { slot.new ≡ Some (groups_of text.now) }
 {
-    Ok(words_list::<Group, 128>(text)?)
+    put_words::<Group, 128>(slot, text);
 }
 
-// A process in each of its name spaces.
-pub fn spaces(text: &str) -> Result<Counted<i32, 32>, Fault>
-    ensures { result ≡ spaces_of text.now }
+// Puts a process in each of its name spaces into a slot.
+pub fn put_spaces(slot: &mut Slot<Counted<i32, 32>>, text: &str)
+    ensures { slot.new ≡ Some (spaces_of text.now) }
 {
-    Ok(words_list::<Process, 32>(text)?)
+    put_words::<Process, 32>(slot, text);
 }
 
-// The words of a mask.
-pub fn mask(text: &str) -> Result<Counted<u32, 256>, Fault>
-    ensures { result ≡ mask_of text.now }
+// Puts the words of a mask into a slot.
+pub fn put_mask(slot: &mut Slot<Counted<u32, 256>>, text: &str)
+    ensures { slot.new ≡ Some (mask_of text.now) }
 {
-    Ok(commas_list::<Word, 256>(text)?)
+    put_commas::<Word, 256>(slot, text);
 }
 
-// A bad range makes the list count as missing.
-pub fn ranges(text: &str) -> Result<Option<Counted<(u32, u32), 128>>, Fault>
-    ensures { result ≡ ranges_of text.now }
+// Puts ranges into a slot, where they stand. A bad range makes the list count as missing.
+pub fn put_ranges(slot: &mut Slot<Option<Counted<(u32, u32), 128>>>, text: &str)
+    ensures { slot.new ≡ Some (ranges_of text.now) }
 {
-    match commas_list::<Range, 128>(text) {
-        Ok(list) => Ok(Some(list)),
-        Err(ListFault::Bad) => Ok(None),
-        Err(ListFault::Full) => Err(Fault::new(Reason::Full)),
+    *slot = Some(Ok(Some(Counted::default())));
+    if let Some(Ok(Some(list))) = slot {
+        match fill_list::<Range, _, 128>(list, text.split(',')) {
+            Ok(()) => {}
+            Err(ListFault::Bad) => *slot = Some(Ok(None)),
+            Err(ListFault::Full) => *slot = Some(Err(Fault::new(Reason::Full))),
+        }
     }
 }
 

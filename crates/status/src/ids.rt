@@ -3,8 +3,8 @@ ghost use Rattle.std.specs.Result.{result_and};
 ghost use Rattle.status.specs.IdsFields.{fill_ids, judged_ids};
 
 use crate::record::Status;
-use fields::counted::{Text, copied};
-use fields::slot::{Slot, needed, optional};
+use fields::counted::{Text, put_text};
+use fields::slot::{Slot, set_needed, set_optional};
 use fields::value::figure;
 use sources::fault::Fault;
 use sources::number::Radix;
@@ -28,9 +28,9 @@ impl IdsSlots {
         ensures { self.new ≡ fill_ids ((number, text.now) ∷ []) self.old }
     {
         match number {
-            1 => self.name = Some(Ok(copied(text))),
+            1 => put_text(&mut self.name, text),
             2 => self.umask = Some(figure(text, Radix::Octal)),
-            3 => self.state = Some(Ok(copied(text))),
+            3 => put_text(&mut self.state, text),
             4 => self.tgid = Some(figure(text, Radix::Decimal)),
             5 => self.ngid = Some(figure(text, Radix::Decimal)),
             6 => self.pid = Some(figure(text, Radix::Decimal)),
@@ -44,14 +44,14 @@ impl IdsSlots {
     pub(crate) fn judge(&self, status: &mut Status) -> Result<(), Fault>
         ensures { result_and result (Ok status.new) ≡ judged_ids self.now status.old }
     {
-        status.name = needed(1, self.name)?;
-        status.umask = optional(2, self.umask)?;
-        status.state = needed(3, self.state)?;
-        status.tgid = needed(4, self.tgid)?;
-        status.ngid = optional(5, self.ngid)?;
-        status.pid = needed(6, self.pid)?;
-        status.ppid = needed(7, self.ppid)?;
-        status.tracerpid = needed(8, self.tracerpid)?;
+        set_needed(1, &self.name, &mut status.name)?;
+        set_optional(2, &self.umask, &mut status.umask)?;
+        set_needed(3, &self.state, &mut status.state)?;
+        set_needed(4, &self.tgid, &mut status.tgid)?;
+        set_optional(5, &self.ngid, &mut status.ngid)?;
+        set_needed(6, &self.pid, &mut status.pid)?;
+        set_needed(7, &self.ppid, &mut status.ppid)?;
+        set_needed(8, &self.tracerpid, &mut status.tracerpid)?;
         Ok(())
     }
 }

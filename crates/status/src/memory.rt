@@ -3,7 +3,7 @@ ghost use Rattle.std.specs.Result.{result_and};
 ghost use Rattle.status.specs.MemoryFields.{fill_memory, judged_memory};
 
 use crate::record::Status;
-use fields::slot::{Slot, optional};
+use fields::slot::{Slot, set_optional};
 use fields::value::kilobytes;
 use sources::fault::Fault;
 
@@ -58,22 +58,22 @@ impl MemorySlots {
     pub(crate) fn judge(&self, status: &mut Status) -> Result<(), Fault>
         ensures { result_and result (Ok status.new) ≡ judged_memory self.now status.old }
     {
-        status.vmpeak = optional(23, self.vmpeak)?;
-        status.vmsize = optional(24, self.vmsize)?;
-        status.vmlck = optional(25, self.vmlck)?;
-        status.vmpin = optional(26, self.vmpin)?;
-        status.vmhwm = optional(27, self.vmhwm)?;
-        status.vmrss = optional(28, self.vmrss)?;
-        status.rssanon = optional(29, self.rssanon)?;
-        status.rssfile = optional(30, self.rssfile)?;
-        status.rssshmem = optional(31, self.rssshmem)?;
-        status.vmdata = optional(32, self.vmdata)?;
-        status.vmstk = optional(33, self.vmstk)?;
-        status.vmexe = optional(34, self.vmexe)?;
-        status.vmlib = optional(35, self.vmlib)?;
-        status.vmpte = optional(36, self.vmpte)?;
-        status.vmswap = optional(37, self.vmswap)?;
-        status.hugetlbpages = optional(38, self.hugetlbpages)?;
+        set_optional(23, &self.vmpeak, &mut status.vmpeak)?;
+        set_optional(24, &self.vmsize, &mut status.vmsize)?;
+        set_optional(25, &self.vmlck, &mut status.vmlck)?;
+        set_optional(26, &self.vmpin, &mut status.vmpin)?;
+        set_optional(27, &self.vmhwm, &mut status.vmhwm)?;
+        set_optional(28, &self.vmrss, &mut status.vmrss)?;
+        set_optional(29, &self.rssanon, &mut status.rssanon)?;
+        set_optional(30, &self.rssfile, &mut status.rssfile)?;
+        set_optional(31, &self.rssshmem, &mut status.rssshmem)?;
+        set_optional(32, &self.vmdata, &mut status.vmdata)?;
+        set_optional(33, &self.vmstk, &mut status.vmstk)?;
+        set_optional(34, &self.vmexe, &mut status.vmexe)?;
+        set_optional(35, &self.vmlib, &mut status.vmlib)?;
+        set_optional(36, &self.vmpte, &mut status.vmpte)?;
+        set_optional(37, &self.vmswap, &mut status.vmswap)?;
+        set_optional(38, &self.hugetlbpages, &mut status.hugetlbpages)?;
         Ok(())
     }
 }

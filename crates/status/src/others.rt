@@ -1,12 +1,11 @@
 ghost use Rattle.std.specs.Prelude.{◌≡◌, [], ◌∷◌};
 ghost use Rattle.std.specs.Result.{result_and};
-ghost use Rattle.fields.specs.Values.{mask_of, ranges_of};
 ghost use Rattle.status.specs.OthersFields.{fill_others, judged_others};
 
 use crate::record::Status;
-use fields::counted::{Counted, Text, copied};
-use fields::slot::{Slot, lenient, optional};
-use fields::value::{figure, flag, mask, ranges};
+use fields::counted::{Counted, Text, put_text};
+use fields::slot::{Slot, set_lenient, set_optional};
+use fields::value::{figure, flag, put_mask, put_ranges};
 use sources::fault::Fault;
 use sources::number::Radix;
 
@@ -26,19 +25,6 @@ pub struct OthersSlots {
     pub(crate) thp_enabled: Slot<bool>,
 }
 
-// Functions of their own, so that other lines make no room for a list.
-fn put_mask(slot: &mut Slot<Counted<u32, 256>>, text: &str)
-    ensures { slot.new ≡ Some (mask_of text.now) }
-{
-    *slot = Some(mask(text));
-}
-
-fn put_ranges(slot: &mut Slot<Option<Counted<(u32, u32), 128>>>, text: &str)
-    ensures { slot.new ≡ Some (ranges_of text.now) }
-{
-    *slot = Some(ranges(text));
-}
-
 impl OthersSlots {
     // After a line that sets the field `number`.
     pub(crate) fn next(&mut self, number: u8, text: &str)
@@ -47,7 +33,7 @@ impl OthersSlots {
         match number {
             51 => self.nonewprivs = Some(figure(text, Radix::Decimal)),
             52 => self.seccomp = Some(figure(text, Radix::Decimal)),
-            53 => self.speculation_store_bypass = Some(Ok(copied(text))),
+            53 => put_text(&mut self.speculation_store_bypass, text),
             54 => put_mask(&mut self.cpus_allowed, text),
             55 => put_ranges(&mut self.cpus_allowed_list, text),
             56 => put_mask(&mut self.mems_allowed, text),
@@ -64,17 +50,29 @@ impl OthersSlots {
     pub(crate) fn judge(&self, status: &mut Status) -> Result<(), Fault>
         ensures { result_and result (Ok status.new) ≡ judged_others self.now status.old }
     {
-        status.nonewprivs = optional(51, self.nonewprivs)?;
-        status.seccomp = optional(52, self.seccomp)?;
-        status.speculation_store_bypass = optional(53, self.speculation_store_bypass)?;
-        status.cpus_allowed = optional(54, self.cpus_allowed)?;
-        status.cpus_allowed_list = lenient(55, self.cpus_allowed_list)?;
-        status.mems_allowed = optional(56, self.mems_allowed)?;
-        status.mems_allowed_list = lenient(57, self.mems_allowed_list)?;
-        status.voluntary_ctxt_switches = optional(58, self.voluntary_ctxt_switches)?;
-        status.nonvoluntary_ctxt_switches = optional(59, self.nonvoluntary_ctxt_switches)?;
-        status.core_dumping = optional(60, self.core_dumping)?;
-        status.thp_enabled = optional(61, self.thp_enabled)?;
+        set_optional(51, &self.nonewprivs, &mut status.nonewprivs)?;
+        set_optional(52, &self.seccomp, &mut status.seccomp)?;
+        set_optional(
+            53,
+            &self.speculation_store_bypass,
+            &mut status.speculation_store_bypass,
+        )?;
+        set_optional(54, &self.cpus_allowed, &mut status.cpus_allowed)?;
+        set_lenient(55, &self.cpus_allowed_list, &mut status.cpus_allowed_list)?;
+        set_optional(56, &self.mems_allowed, &mut status.mems_allowed)?;
+        set_lenient(57, &self.mems_allowed_list, &mut status.mems_allowed_list)?;
+        set_optional(
+            58,
+            &self.voluntary_ctxt_switches,
+            &mut status.voluntary_ctxt_switches,
+        )?;
+        set_optional(
+            59,
+            &self.nonvoluntary_ctxt_switches,
+            &mut status.nonvoluntary_ctxt_switches,
+        )?;
+        set_optional(60, &self.core_dumping, &mut status.core_dumping)?;
+        set_optional(61, &self.thp_enabled, &mut status.thp_enabled)?;
         Ok(())
     }
 }

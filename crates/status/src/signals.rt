@@ -3,7 +3,7 @@ ghost use Rattle.std.specs.Result.{result_and};
 ghost use Rattle.status.specs.SignalsFields.{fill_signals, judged_signals};
 
 use crate::record::Status;
-use fields::slot::{Slot, needed, optional};
+use fields::slot::{Slot, set_needed, set_optional};
 use fields::value::{figure, pair};
 use sources::fault::Fault;
 use sources::number::Radix;
@@ -51,18 +51,18 @@ impl SignalsSlots {
     pub(crate) fn judge(&self, status: &mut Status) -> Result<(), Fault>
         ensures { result_and result (Ok status.new) ≡ judged_signals self.now status.old }
     {
-        status.threads = needed(39, self.threads)?;
-        status.sigq = needed(40, self.sigq)?;
-        status.sigpnd = needed(41, self.sigpnd)?;
-        status.shdpnd = needed(42, self.shdpnd)?;
-        status.sigblk = needed(43, self.sigblk)?;
-        status.sigign = needed(44, self.sigign)?;
-        status.sigcgt = needed(45, self.sigcgt)?;
-        status.capinh = needed(46, self.capinh)?;
-        status.capprm = needed(47, self.capprm)?;
-        status.capeff = needed(48, self.capeff)?;
-        status.capbnd = optional(49, self.capbnd)?;
-        status.capamb = optional(50, self.capamb)?;
+        set_needed(39, &self.threads, &mut status.threads)?;
+        set_needed(40, &self.sigq, &mut status.sigq)?;
+        set_needed(41, &self.sigpnd, &mut status.sigpnd)?;
+        set_needed(42, &self.shdpnd, &mut status.shdpnd)?;
+        set_needed(43, &self.sigblk, &mut status.sigblk)?;
+        set_needed(44, &self.sigign, &mut status.sigign)?;
+        set_needed(45, &self.sigcgt, &mut status.sigcgt)?;
+        set_needed(46, &self.capinh, &mut status.capinh)?;
+        set_needed(47, &self.capprm, &mut status.capprm)?;
+        set_needed(48, &self.capeff, &mut status.capeff)?;
+        set_optional(49, &self.capbnd, &mut status.capbnd)?;
+        set_optional(50, &self.capamb, &mut status.capamb)?;
         Ok(())
     }
 }

@@ -1,12 +1,11 @@
 ghost use Rattle.std.specs.Prelude.{◌≡◌, [], ◌∷◌};
 ghost use Rattle.std.specs.Result.{result_and};
-ghost use Rattle.fields.specs.Values.{groups_of, spaces_of};
 ghost use Rattle.status.specs.SpacesFields.{fill_spaces, judged_spaces};
 
 use crate::record::Status;
 use fields::counted::Counted;
-use fields::slot::{Slot, needed, optional};
-use fields::value::{figure, groups, spaces};
+use fields::slot::{Slot, set_needed, set_optional};
+use fields::value::{figure, put_groups, put_spaces};
 use sources::fault::Fault;
 use sources::number::Radix;
 
@@ -19,19 +18,6 @@ pub struct SpacesSlots {
     pub(crate) nspid: Slot<Counted<i32, 32>>,
     pub(crate) nspgid: Slot<Counted<i32, 32>>,
     pub(crate) nssid: Slot<Counted<i32, 32>>,
-}
-
-// Functions of their own, so that other lines make no room for a list.
-fn put_groups(slot: &mut Slot<Counted<u32, 128>>, text: &str)
-    ensures { slot.new ≡ Some (groups_of text.now) }
-{
-    *slot = Some(groups(text));
-}
-
-fn put_spaces(slot: &mut Slot<Counted<i32, 32>>, text: &str)
-    ensures { slot.new ≡ Some (spaces_of text.now) }
-{
-    *slot = Some(spaces(text));
 }
 
 impl SpacesSlots {
@@ -54,12 +40,12 @@ impl SpacesSlots {
     pub(crate) fn judge(&self, status: &mut Status) -> Result<(), Fault>
         ensures { result_and result (Ok status.new) ≡ judged_spaces self.now status.old }
     {
-        status.fdsize = needed(17, self.fdsize)?;
-        status.groups = needed(18, self.groups)?;
-        status.nstgid = optional(19, self.nstgid)?;
-        status.nspid = optional(20, self.nspid)?;
-        status.nspgid = optional(21, self.nspgid)?;
-        status.nssid = optional(22, self.nssid)?;
+        set_needed(17, &self.fdsize, &mut status.fdsize)?;
+        set_needed(18, &self.groups, &mut status.groups)?;
+        set_optional(19, &self.nstgid, &mut status.nstgid)?;
+        set_optional(20, &self.nspid, &mut status.nspid)?;
+        set_optional(21, &self.nspgid, &mut status.nspgid)?;
+        set_optional(22, &self.nssid, &mut status.nssid)?;
         Ok(())
     }
 }

@@ -4,10 +4,10 @@ use Rattle.fields.specs.Counted.{with_item}
 use Rattle.fields.specs.Lists.{bad_for}
 use Rattle.fields.specs.declared.list.ListFault.TheVariants.{Full}
 use Rattle.fields.proofs.Fills.{none_had, all_had, bad, full, more}
-use Rattle.fields.proofs.list.read_list.Goals as goal
+use Rattle.fields.proofs.list.fill_list.Goals as goal
 
 pub loop-piece-init : goal.loop-piece-init
-loop-piece-init g c = rw c.into_iter-piece-iterator.ensures.into_iter_gives (c.requires.can, c.requires.ends, λ texts y. none_had c.default-list.ensures y)
+loop-piece-init g c = rw c.into_iter-piece-iterator.ensures.into_iter_gives (c.requires.can, c.requires.ends, λ texts y. none_had c.requires.empty y)
 
 pub returns-in_err-read : goal.returns-in_err-read
 returns-in_err-read g c = λ texts y.

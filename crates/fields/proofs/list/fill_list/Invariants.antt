@@ -2,7 +2,7 @@ use Rattle.std.proofs.Common.{ℕ, List}
 use Rattle.std.specs.Iterator.{AlwaysYields}
 use Rattle.sources.specs.Pieces.{bytes_of}
 use Rattle.fields.proofs.Fills.{Had}
-use Rattle.fields.proofs.list.read_list.Given as goal
+use Rattle.fields.proofs.list.fill_list.Given as goal
 
 -- What is left is answered as the whole was to be.
 abbrev pub invariant-loop-piece : goal.invariant-loop-piece
