@@ -37,12 +37,20 @@ pub fn set_needed<T: Copy>(field: u8, slot: &Slot<T>, place: &mut T) -> Result<(
 }
 
 // Sets a field that may be missing.
-pub fn set_optional<T: Copy>(field: u8, slot: &Slot<T>, place: &mut Option<T>) -> Result<(), Fault>
+pub fn set_optional<T: Copy + Default + Drop>(
+    field: u8,
+    slot: &Slot<T>,
+    place: &mut Option<T>,
+) -> Result<(), Fault>
     ensures { result_and result (Ok place.new) ≡ optional_of field slot.now }
 {
     match slot {
         None => *place = None,
-        Some(Ok(value)) => *place = Some(*value),
+        Some(Ok(value)) => {
+            // Where it stands: `Some(*value)` would be made elsewhere and moved.
+            let held = place.get_or_insert_default();
+            *held = *value;
+        }
         Some(Err(f)) => return at_field(field, Err(*f)),
     }
     Ok(())
