@@ -41,7 +41,7 @@ impl Answer {
         Answer {
             number: u32::from(refusal.reason.number()),
             line: refusal.line,
-            field: u32::from(refusal.field),
+            field: refusal.field,
         }
     }
 }

@@ -9,21 +9,21 @@ use sources::reason::Reason;
 pub type Slot<T> = Option<Result<T, Fault>>;
 
 // A fault gains the number of its field.
-pub fn at_field<T>(field: u8, r: Result<T, Fault>) -> Result<T, Fault>
+pub fn at_field<T>(field: u32, r: Result<T, Fault>) -> Result<T, Fault>
     ensures { result ≡ at_field field r }
 {
     r.map_err(|f| Fault { field, ..f })
 }
 
 // A field that may not be missing.
-pub fn needed<T>(field: u8, slot: Slot<T>) -> Result<T, Fault>
+pub fn needed<T>(field: u32, slot: Slot<T>) -> Result<T, Fault>
     ensures { result ≡ needed_of field slot }
 {
     at_field(field, slot.ok_or(Fault::new(Reason::Absent)).flatten())
 }
 
 // Sets a field that may not be missing.
-pub fn set_needed<T: Copy>(field: u8, slot: &Slot<T>, place: &mut T) -> Result<(), Fault>
+pub fn set_needed<T: Copy>(field: u32, slot: &Slot<T>, place: &mut T) -> Result<(), Fault>
     ensures { result_and result (Ok place.new) ≡ needed_of field slot.now }
 {
     match slot {
@@ -38,7 +38,7 @@ pub fn set_needed<T: Copy>(field: u8, slot: &Slot<T>, place: &mut T) -> Result<(
 
 // Sets a field that may be missing.
 pub fn set_optional<T: Copy + Default + Drop>(
-    field: u8,
+    field: u32,
     slot: &Slot<T>,
     place: &mut Option<T>,
 ) -> Result<(), Fault>
@@ -58,7 +58,7 @@ pub fn set_optional<T: Copy + Default + Drop>(
 
 // Sets a field that may be missing, or be there and count as missing.
 pub fn set_lenient<T: Copy>(
-    field: u8,
+    field: u32,
     slot: &Slot<Option<T>>,
     place: &mut Option<T>,
 ) -> Result<(), Fault>

@@ -26,7 +26,7 @@ impl LimitsSlots {
         ensures { result ≡ needed (place + 1) (slice_index_or self.now.slots place None) }
     {
         // The check shows that it fits.
-        needed(place as u8 + 1, self.slots[place])
+        needed(place as u32 + 1, self.slots[place])
     }
 }
 

@@ -53,7 +53,7 @@ mod tests {
         }
     }
 
-    fn at(reason: Reason, line: u32, field: u8) -> Result<(), Refusal> {
+    fn at(reason: Reason, line: u32, field: u32) -> Result<(), Refusal> {
         Err(Refusal {
             reason,
             line,

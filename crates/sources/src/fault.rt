@@ -13,7 +13,7 @@ pub enum NumberFault {
 #[derive(Clone, Copy, PartialEq, Eq, Debug)]
 pub struct Fault {
     pub reason: Reason,
-    pub field: u8,
+    pub field: u32,
 }
 
 // A fault with the number of its line, or 0. It is flat, and 0 stands for none, as the rules number lines and fields from 1 on and C is handed its figures side by side.
@@ -21,7 +21,7 @@ pub struct Fault {
 pub struct Refusal {
     pub reason: Reason,
     pub line: u32,
-    pub field: u8,
+    pub field: u32,
 }
 
 impl From<NumberFault> for Fault {
