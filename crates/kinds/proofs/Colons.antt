@@ -1,37 +1,30 @@
--- What std's `trim_end_matches` leaves of a word, where it cuts off colons.
-use Rattle.std.proofs.Common.{◌≡◌, ℕ, ◌≤◌, ◌-◌, Bool, true, false, cond, eqb, List, [], ◌∷◌, ◌++◌, reverse, length, take, Some, None, Option, IfSome, sym, refl, ap, ◌∙◌, arith, lit<, eqb-true}
-use mathlib.Core.List.{reverse-append, reverse-reverse}
-use Rattle.std.proofs.lemmas.Str.Pattern.{ends_char}
-use Rattle.std.specs.Str.Pattern.{FindsCharSuffix, CutsSuffixes, IsTrimEndMatches}
+-- A word without its trailing colons, by one of them at a time.
+use Rattle.std.proofs.Common.{◌≡◌, ℕ, Bool, true, false, cond, List, [], ◌∷◌, reverse, Some, None, Option, ◌==◌, sym, refl, ap, ◌∙◌}
+use mathlib.Core.List.{reverse-reverse}
+use Rattle.std.specs.Option.{option_map}
+use Rattle.sources.specs.Pieces.{case_of, past, shorn}
 use Rattle.kinds.specs.Attribute.{after_colons, bare}
 
-bare-colon : (front : List ℕ) → bare (front ++ (58 ∷ [])) ≡ bare front
-bare-colon front = rw (reverse-append front (58 ∷ []))
+-- A colon that is cut off, of the word read backwards.
+one_cut : (b : ℕ) (bs m : List ℕ) (t : Bool) → (b == 58) ≡ t → option_map reverse (cond t (Some bs) None) ≡ Some m → reverse (cond t (after_colons bs) (b ∷ bs)) ≡ bare m
+one_cut b bs m true t e = ap (λ (r : List ℕ). reverse (after_colons r)) (sym (reverse-reverse bs)) ∙ ap (λ (o : Option (List ℕ)). case_of o [] bare) e
+one_cut b bs m false t e = cc
 
-bare-none : (r : List ℕ) → ((front : List ℕ) → r ≡ front ++ (58 ∷ []) → ⊥) → bare r ≡ r
-bare-none r n = at (reverse r) (reverse-reverse r)
-  where
-    at : (bs : List ℕ) → reverse bs ≡ r → reverse (after_colons bs) ≡ r
-    at [] e = e
-    at (b ∷ bs) e = first (eqb b 58) refl
-      where
-        first : (q : Bool) → eqb b 58 ≡ q → reverse (cond q (after_colons bs) (b ∷ bs)) ≡ r
-        first true q = absurd (n (reverse bs) (sym e ∙ reverse-append (b ∷ []) bs ∙ rw (eqb-true b 58 q)))
-        first false q = e
+backwards_cut : (r m : List ℕ) → option_map reverse (past (58 ∷ []) r) ≡ Some m → reverse (after_colons r) ≡ bare m
+backwards_cut [] m e = cc
+backwards_cut (b ∷ bs) m e = one_cut b bs m (b == 58) refl e
 
-cut-is : (m : List ℕ) (n : ℕ) → FindsCharSuffix 58 m (Some n) → m ≡ take (length m - n) m ++ (58 ∷ [])
-cut-is m n h =
-    let one : n ≡ 1 = h.0 in
-    let some : n ≤ length m = omega (arith, h.1.ends) in
-    rw one ((ends_char 58 m true (n, h, some, rw one h.2) (lit< tt)).0 refl)
+pub colon_cut : (bs m : List ℕ) → shorn (58 ∷ []) bs ≡ Some m → bare bs ≡ bare m
+colon_cut bs m e = backwards_cut (reverse bs) m e
 
-bare-cuts : (s : List ℕ) (ns : List ℕ) (r : List ℕ) → CutsSuffixes (FindsCharSuffix 58) s ns r → bare r ≡ bare s
-bare-cuts s [] r h = ap bare h
-bare-cuts s (n ∷ ns) r h = ap bare h.3 ∙ sym (bare-colon (take (length h.0 - n) h.0)) ∙ sym (ap bare (cut-is h.0 n h.2)) ∙ bare-cuts s ns h.0 h.1
+-- A word that ends in no colon.
+one_kept : (b : ℕ) (bs : List ℕ) (t : Bool) → (b == 58) ≡ t → option_map reverse (cond t (Some bs) None) ≡ None → cond t (after_colons bs) (b ∷ bs) ≡ b ∷ bs
+one_kept b bs true t e = cc
+one_kept b bs false t e = refl
 
-pub trimmed-is : (s r : List ℕ) → IsTrimEndMatches (FindsCharSuffix 58) s r → r ≡ bare s
-trimmed-is s r h = sym (full h.1.0 h.1.1 h.1.2) ∙ bare-cuts s h.0.0 r h.0.1
-  where
-    full : (o : Option ℕ) → FindsCharSuffix 58 r o → IfSome o (λ n. n ≡ 0) → bare r ≡ r
-    full None f z = bare-none r (λ front e. let q = (ends_char 58 r false f (lit< tt)).1 front e in cc)
-    full (Some n) f z = absurd (omega (arith, f.0))
+backwards_kept : (r : List ℕ) → option_map reverse (past (58 ∷ []) r) ≡ None → after_colons r ≡ r
+backwards_kept [] e = refl
+backwards_kept (b ∷ bs) e = one_kept b bs (b == 58) refl e
+
+pub no_colon : (bs : List ℕ) → shorn (58 ∷ []) bs ≡ None → bare bs ≡ bs
+no_colon bs e = ap reverse (backwards_kept (reverse bs) e) ∙ reverse-reverse bs

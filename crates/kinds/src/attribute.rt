@@ -3,6 +3,7 @@ ghost use Rattle.kinds.specs.Attribute.{bare as bare_of, entry_of, scaled as sca
 
 use sources::fault::Fault;
 use sources::number::{FromStrRadix, Radix};
+use sources::pieces::shorn;
 use sources::reason::Reason;
 use sources::words::next_word;
 
@@ -14,10 +15,15 @@ pub struct Attribute<'a> {
 }
 
 // The word without its trailing colons.
+#[tactic(auto, using(crate::proofs::Colons::colon_cut, crate::proofs::Colons::no_colon))]
 fn bare(word: &str) -> &str
     ensures { result.now ≡ bare_of word.now }
 {
-    word.trim_end_matches(':')
+    let mut rest = word;
+    while let Some(front) = shorn(rest, ":") {
+        rest = front;
+    }
+    rest
 }
 
 fn amount(word: &str) -> Result<u64, Fault>

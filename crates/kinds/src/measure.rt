@@ -1,11 +1,12 @@
 ghost use Rattle.std.specs.Prelude.{◌≡◌, ◌+◌, refl};
 ghost use Rattle.sources.specs.declared.kind.Break.TheVariants.{Refuses};
-ghost use Rattle.kinds.specs.Measure.{fresh, next, measure_rules, has_begun, is_foreign, capped, sum_of, set_to, closed_with, opened};
+ghost use Rattle.kinds.specs.Measure.{fresh, next, measure_rules, has_begun, is_foreign, fault_of, capped, sum_of, set_to, closed_with, opened};
 ghost use Rattle.kinds.specs.MeasureLaws.{refusal_stays, foreign_aside, begins_with_mapping};
 ghost use Rattle.kinds.specs.Measured.{closed_of, recording_of, join_of};
 ghost use Rattle.kinds.specs.Sums.{Measures, SameInEditions, AddsOverJoins};
 ghost use Rattle.kinds.specs.declared.measure.State.{State as Standing};
 ghost use Rattle.sources.specs.Lines.{reading};
+ghost use Rattle.sources.specs.Rules.{verdict as verdict_of};
 
 use crate::sort::{Key, Setting, Sort, sort_of};
 use sources::drive::read;
@@ -97,23 +98,15 @@ impl Figures {
         Ok(Figures { rss, pss, swap_pss })
     }
 
-    fn set(self, setting: Setting) -> Figures
-        ensures { result ≡ set_to setting self }
+    // Sets the figure of one key.
+    fn set(&mut self, setting: Setting)
+        ensures { self.new ≡ set_to setting self.old }
     {
         let Setting { key, amount } = setting;
         match key {
-            Key::Rss => Figures {
-                rss: amount,
-                ..self
-            },
-            Key::Pss => Figures {
-                pss: amount,
-                ..self
-            },
-            Key::SwapPss => Figures {
-                swap_pss: amount,
-                ..self
-            },
+            Key::Rss => self.rss = amount,
+            Key::Pss => self.pss = amount,
+            Key::SwapPss => self.swap_pss = amount,
         }
     }
 }
@@ -138,29 +131,40 @@ impl Tally {
     }
 }
 
-// What a line of a sort makes of a state.
-fn step(state: State, sort: Sort, cap: u64) -> State
-    ensures { result ≡ next cap state sort }
+// What a line of a sort makes of a state, and whether that is refused. A line that changes nothing writes nothing.
+fn step(state: &mut State, sort: Sort, cap: u64) -> Result<(), Fault>
+    ensures next { state.new ≡ next cap state.old sort }
+    ensures verdict { result ≡ verdict_of (fault_of state.new) }
 {
-    match (state, sort) {
-        (State::Refused(f), _) => State::Refused(f),
-        (State::NoMapping, Sort::Attribute(_)) => State::Refused(Fault::new(Reason::Orphan)),
-        (State::NoMapping, Sort::Mapping(Err(f))) => State::Refused(f),
-        (State::NoMapping, Sort::Mapping(Ok(()))) => State::InMapping(Tally {
-            mappings: 1,
-            ..Tally::default()
-        }),
+    let taken = match (&mut *state, sort) {
+        (State::Refused(f), _) => return Err(*f),
+        (State::NoMapping, Sort::Attribute(_)) => Err(Fault::new(Reason::Orphan)),
+        (State::NoMapping, Sort::Mapping(Err(f))) => Err(f),
+        (State::NoMapping, Sort::Mapping(Ok(()))) => {
+            *state = State::InMapping(Tally {
+                mappings: 1,
+                ..Tally::default()
+            });
+            Ok(())
+        }
         (State::InMapping(tally), Sort::Mapping(head)) => match (tally.opened(cap), head) {
-            (Ok(tally), Ok(())) => State::InMapping(tally),
-            (Err(f), _) | (Ok(_), Err(f)) => State::Refused(f),
+            (Ok(next), Ok(())) => {
+                *tally = next;
+                Ok(())
+            }
+            (Err(f), _) | (Ok(_), Err(f)) => Err(f),
         },
-        (State::InMapping(tally), Sort::Attribute(Ok(Some(setting)))) => State::InMapping(Tally {
-            last: tally.last.set(setting),
-            ..tally
-        }),
-        (State::InMapping(_), Sort::Attribute(Ok(None))) => state,
-        (State::InMapping(_), Sort::Attribute(Err(f))) => State::Refused(f),
+        (State::InMapping(tally), Sort::Attribute(Ok(Some(setting)))) => {
+            tally.last.set(setting);
+            Ok(())
+        }
+        (State::InMapping(_), Sort::Attribute(Ok(None))) => Ok(()),
+        (State::InMapping(_), Sort::Attribute(Err(f))) => Err(f),
+    };
+    if let Err(f) = taken {
+        *state = State::Refused(f);
     }
+    taken
 }
 
 impl Open {
@@ -206,11 +210,7 @@ impl Kind for Open {
     ghost still = { λ _ _ _ _ _. tt };
 
     fn take(&mut self, line: &str) -> Result<(), Fault> {
-        self.state = step(self.state, sort_of(line), CAP);
-        match self.state {
-            State::Refused(f) => Err(f),
-            _ => Ok(()),
-        }
+        step(&mut self.state, sort_of(line), CAP)
     }
 }
 
