@@ -3,10 +3,12 @@ use Rattle.std.proofs.Common.{◌≡◌, ℕ, zero, suc, ◌+◌, ◌<◌, ◌�
 use Rattle.std.specs.Char.{is_ascii_whitespace}
 use Rattle.std.specs.Str.{IsCharBoundary}
 use Rattle.std.specs.List.{prefix_len}
+use Rattle.std.specs.Option.{is_some}
 use Rattle.std.proofs.lemmas.List.Sums.{prefix_len-le-length}
 use Rattle.std.proofs.lemmas.Bool.Decides.{nat_tests}
 use Rattle.std.proofs.lemmas.Bool.{eqb-true}
 use Rattle.sources.specs.Pieces.{past, case_of}
+use Rattle.sources.specs.White.{nth}
 use Rattle.sources.specs.Words.{in_word, onto, before_words, ascii_words}
 
 gap_passed : (bs : List ℕ) (n : ℕ) → n ≤ length bs → ((i : ℕ) → i < n → is_ascii_whitespace (get_or bs i 0) ≡ true) → ascii_words bs ≡ ascii_words (drop n bs)
@@ -79,6 +81,14 @@ a_word bs r x y h e ex ey =
     let l : h.0 < length bs = omega (arith, h.2, some) in
     let d : is_ascii_whitespace (get_or r 0 0) ≡ false = ap (λ (z : List ℕ). is_ascii_whitespace (get_or z 0 0)) h.1 ∙ ap is_ascii_whitespace (front_dark bs h.0 l) ∙ h.4 l in
     skipped bs r h ∙ word_of r e d ∙ rw (ex, ey)
+
+-- a first word is there where anything is left
+some_word : (bs : List ℕ) (b : Bool) (r : List ℕ) → Skips bs r → eqb (length r) 0 ≡ b → not b ≡ is_some (nth 0 (ascii_words bs))
+some_word bs true r h e = rw (no_word bs r h e)
+some_word bs false r h e = rw (a_word bs r _ _ h e refl refl)
+
+pub any_left : (bs r : List ℕ) → Skips bs r → not (eqb (length r) 0) ≡ is_some (nth 0 (ascii_words bs))
+any_left bs r h = some_word bs (eqb (length r) 0) r h refl
 
 -- a word ends at a character's end, since white bytes are ASCII
 fails_at : (p : ℕ → Bool) (x n : ℕ) (xs : List ℕ) (b : Bool) → p x ≡ b → (n < length xs → p (get_or xs n 0) ≡ false) → cond b (1 + n) 0 < length (x ∷ xs) → p (get_or (x ∷ xs) (cond b (1 + n) 0) 0) ≡ false

@@ -20,4 +20,5 @@ pub mod Spaced
 pub mod Found
 pub mod Cut
 pub mod Low
+pub mod Ascii
 pub mod Folds

@@ -9,6 +9,7 @@ use crate::fault::{Refusal, at_line};
 use crate::kind::{Break, Close, Finish, Kind};
 use crate::reason::Reason;
 use crate::source::{Piece, Source};
+use std::simd::prelude::*;
 use std::str::{from_utf8, from_utf8_unchecked};
 
 // The longest piece of a line, and the longest text.
@@ -71,31 +72,47 @@ fn next_line<S: Source>(source: &mut S, buf: &mut [u8]) -> Next
     }
 }
 
-// Whether all bytes of a block are ASCII. No byte ends the loop early, so that it compiles to steps over many bytes at a time.
-fn is_ascii(block: &[u8; 64]) -> bool
-    ensures { IsTrue result → IsAscii block.now }
+// Whether all of 16 bytes are ASCII.
+#[inline(always)]
+fn is_ascii(bytes: u8x16) -> bool
+    ensures { IsTrue result → IsAscii bytes }
 {
-    let mut wide = false;
-    for byte in block {
-        wide |= *byte >= 0x80;
-    }
-    !wide
+    bytes.simd_ge(u8x16::splat(0x80)).to_bitmask() == 0
 }
 
-// The first n bytes as text, where they are UTF-8. Most lines are short and ASCII, which one look at the first block tells.
-// What that block holds behind the line decides only which of the two ways is taken.
+// Whether a text of 16 to 32 bytes is all ASCII: its first and its last 16 are the whole.
+#[inline(always)]
+fn ends_ascii(text: &[u8]) -> bool
+    requires long { 16 ≤ length text.now }
+    requires short { length text.now ≤ 32 }
+    ensures { IsTrue result → IsAscii text.now }
+{
+    let front = u8x16::from_slice(text);
+    let back = u8x16::from_slice(&text[text.len() - 16..]);
+    is_ascii(front | back)
+}
+
+// Whether a text is known to be ASCII by few looks. A text of fewer than 16 bytes, or of more than 64, is not.
+fn short_ascii(text: &[u8]) -> bool
+    ensures { IsTrue result → IsAscii text.now }
+{
+    match text.len() {
+        16..=32 => ends_ascii(text),
+        33..=64 => ends_ascii(&text[..32]) && ends_ascii(&text[text.len() - 32..]),
+        _ => false,
+    }
+}
+
+// The first n bytes as text, where they are UTF-8. The first and the last 16 bytes are the whole of most lines, and two looks tell that they are ASCII.
 fn line_text(buf: &[u8], n: usize) -> Option<&str>
     requires { n ≤ length buf.now }
     ensures { MatchOption result (¬ (IsUtf8 (take n buf.now))) (λ s. (s.now ≡ take n buf.now) × IsUtf8 (take n buf.now)) }
 {
-    if n <= 64 {
-        if let Some(block) = buf.first_chunk::<64>() {
-            if is_ascii(block) {
-                return Some(unsafe { from_utf8_unchecked(&buf[..n]) });
-            }
-        }
+    let line = &buf[..n];
+    if short_ascii(line) {
+        return Some(unsafe { from_utf8_unchecked(line) });
     }
-    from_utf8(&buf[..n]).ok()
+    from_utf8(line).ok()
 }
 
 // Hands the lines of a text to a kind, and answers how many. The kind is to be closed then: by `read` and `fill`, or by a caller who closes it into memory of his own.

@@ -1,6 +1,8 @@
 ghost use Rattle.std.specs.Prelude.{◌≡◌, ◌<◌, ℕ, [], ◌∷◌, map, length, slice_index, nat_le, IfSome, MatchOption};
 ghost use Rattle.std.specs.List.{prefix_len};
+ghost use Rattle.std.specs.Option.{is_some};
 ghost use Rattle.std.specs.Simd.Lanes.{mask_l};
+ghost use Rattle.sources.specs.White.{nth};
 ghost use Rattle.sources.specs.Words.{ascii_words, in_word};
 
 use crate::pieces::past;
@@ -70,4 +72,11 @@ pub fn next_word(text: &str) -> Option<(&str, &str)>
     }
     let n = word_len(rest.as_bytes());
     Some(rest.split_at(n))
+}
+
+// Whether a word follows.
+pub fn has_word(text: &str) -> bool
+    ensures { result ≡ is_some (nth 0 (ascii_words text.now)) }
+{
+    !past_gap(text).trim_ascii_start().is_empty()
 }
