@@ -5,7 +5,7 @@ use sources::fault::Fault;
 use sources::number::{FromStrRadix, Radix};
 use sources::pieces::shorn;
 use sources::reason::Reason;
-use sources::words::next_word;
+use sources::words::{has_word, next_word};
 
 // What an attribute's line says of its mapping.
 #[derive(Clone, Copy, PartialEq, Eq, Debug)]
@@ -53,7 +53,7 @@ impl<'a> Attribute<'a> {
         let Some((value, rest)) = next_word(rest) else {
             return Ok(None);
         };
-        let amount = scaled(amount(value)?, next_word(rest).is_some())?;
+        let amount = scaled(amount(value)?, has_word(rest))?;
         Ok(Some(Attribute {
             key: bare(key),
             amount,
