@@ -1,11 +1,10 @@
 -- Lines that begin with a name as it is written, then a space.
-use Rattle.std.proofs.Common.{◌≡◌, ◌==◌, ℕ, zero, suc, ◌+◌, ◌<◌, Bool, true, false, cond, List, [], ◌∷◌, ◌++◌, map, length, take, drop, Some, None, Ok, Err, codes, IsUtf8, Option, Result, subst, sym, refl, ap, ◌∙◌, append_assoc, arith, nat_lt, slice_index_or}
-use lib.Utf8.{encode, encodes, scalar, scalars}
+use Rattle.std.proofs.Common.{◌≡◌, ◌==◌, ℕ, zero, suc, ◌+◌, ◌<◌, Bool, true, false, cond, List, [], ◌∷◌, ◌++◌, map, length, take, drop, Some, None, Ok, Err, codes, IsUtf8, Option, Result, subst, sym, refl, ap, ◌∙◌, arith, nat_lt, slice_index_or}
+use lib.Utf8.{encode, encodes}
 use Rattle.std.specs.Char.{is_whitespace}
 use Rattle.std.specs.Option.{option_map}
 use Rattle.std.specs.Str.{chars}
-use Rattle.std.proofs.lemmas.Str.{encodes-append, encodes_same, encodes-chars, cons_from_encodes}
-use Rattle.std.proofs.lemmas.Bool.{and_parts}
+use Rattle.std.proofs.lemmas.Str.{encodes-append, encodes_same, encodes-chars}
 use Rattle.std.proofs.lemmas.Bool.Decides.{nat_tests}
 use Rattle.sources.specs.declared.reason.Reason.TheVariants.{Short}
 use Rattle.sources.specs.declared.fault.Fault.{Fault}
@@ -13,6 +12,7 @@ use Rattle.sources.specs.Faults.{fault}
 use Rattle.sources.specs.Pieces.{past}
 use Rattle.sources.specs.White.{nth, white_words}
 use Rattle.sources.specs.Words.{words_between}
+use Rattle.sources.proofs.Spaced.{utf8_after}
 use Rattle.limits.specs.Entries.{Entry, is_heading, name_length, place_in, trimmed_entry, words_behind}
 use Rattle.limits.specs.Names.{names, place_of}
 use Rattle.limits.specs.Words.{word_at}
@@ -91,23 +91,6 @@ at k (suc place) (own ∷ owns) h l = subst (λ n. Named n (slice_index_or owns 
 -- the characters of a text in two parts
 two : (s t gs : List ℕ) → IsUtf8 s → IsUtf8 t → s ≡ encodes gs ++ t → chars s ≡ gs ++ chars t
 two s t gs us ut e = encodes_same (chars s) (gs ++ chars t) (encodes-chars s us ∙ e ∙ sym (encodes-append gs (chars t) ∙ rw (encodes-chars t ut) refl))
-
--- characters before a rest are the first of a text's
-split_encodes : (gs us rest : List ℕ) → encodes us ≡ encodes gs ++ rest → (es : List ℕ) × (us ≡ gs ++ es) × (encodes es ≡ rest)
-split_encodes [] us rest e = (us, refl, e)
-split_encodes (g ∷ gs) us rest e =
-    let h = cons_from_encodes us (encodes gs ++ rest) g (e ∙ append_assoc (encode g) (encodes gs) rest) in
-    let k = split_encodes gs h.0 rest h.2 in
-    (k.0, h.1 ∙ ap (λ (x : List ℕ). g ∷ x) k.1, k.2)
-
-scalars_back : (gs es : List ℕ) → scalars (gs ++ es) ≡ true → scalars es ≡ true
-scalars_back [] es h = h
-scalars_back (g ∷ gs) es h = scalars_back gs es (and_parts (scalar g) _ h).1
-
-utf8_after : (s gs rest : List ℕ) → IsUtf8 s → s ≡ encodes gs ++ rest → IsUtf8 rest
-utf8_after s gs rest u e =
-    let k = split_encodes gs u.0 rest (u.1.1 ∙ e) in
-    (k.0, (scalars_back gs k.0 (subst (λ (x : List ℕ). scalars x ≡ true) k.1 u.1.0), k.2))
 
 pub rest_utf8 : (t r : List ℕ) (place : ℕ) → IsUtf8 t → place < 16 → t ≡ slice_index_or names place [] ++ (32 ∷ r) → IsUtf8 r
 rest_utf8 t r place ut lp et =

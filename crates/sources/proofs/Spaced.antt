@@ -56,7 +56,8 @@ scalars_back : (gs es : List ℕ) → scalars (gs ++ es) ≡ true → scalars es
 scalars_back [] es h = h
 scalars_back (g ∷ gs) es h = scalars_back gs es (and_parts (scalar g) _ h).1
 
-utf8_after : (s gs rest : List ℕ) → IsUtf8 s → s ≡ encodes gs ++ rest → IsUtf8 rest
+-- what stands behind whole characters is text too
+pub utf8_after : (s gs rest : List ℕ) → IsUtf8 s → s ≡ encodes gs ++ rest → IsUtf8 rest
 utf8_after s gs rest u e =
     let k = split_encodes gs u.0 rest (u.1.1 ∙ e) in
     (k.0, (scalars_back gs k.0 (subst (λ (x : List ℕ). scalars x ≡ true) k.1 u.1.0), k.2))
