@@ -1,9 +1,9 @@
--- Bytes that are ASCII: sixteen at once, and two loads that cover a text.
-use Rattle.std.proofs.Common.{◌≡◌, ℕ, ◌+◌, ◌-◌, ◌%◌, ◌^◌, ◌<◌, ◌≤◌, true, not, cond, eqb, nat_le, List, map, length, get_or, drop, replicate, bit_or, sym, ap, subst, ◌∙◌, inl, inr, arith, w8, eqb-true, take}
+-- Bytes that are ASCII: sixteen at once, and loads that cover a text.
+use Rattle.std.proofs.Common.{◌≡◌, ℕ, ◌+◌, ◌-◌, ◌%◌, ◌^◌, ◌<◌, ◌≤◌, true, not, cond, eqb, nat_le, List, map, length, get_or, replicate, bit_or, sym, ap, subst, ◌∙◌, inl, inr, arith, w8, eqb-true}
 use Rattle.std.specs.Str.{IsAscii}
 use Rattle.std.proofs.lemmas.Bool.{cases_lt}
 use Rattle.std.proofs.lemmas.Bool.Decides.{nat_tests}
-use Rattle.std.proofs.lemmas.List.{get_or_past, get_or-take, get_or-drop, length-map, length-drop}
+use Rattle.std.proofs.lemmas.List.{get_or_past, length-map}
 use Rattle.std.proofs.lemmas.List.Sums.{prefix_len_passes}
 use Rattle.std.proofs.lemmas.Nat.{and_le_l, and_le_r}
 use Rattle.std.proofs.lemmas.Simd.{tops_compared, zip2_splat_left, mask_l-mod, leading_from_mask_l, get_or-zip2, length-chunk, get_or-chunk}
@@ -31,34 +31,49 @@ none_high bs long e i =
 both_small : (a b : ℕ) → bit_or a b < 128 → (a < 128) × (b < 128)
 both_small a b h = omega (arith, or_add_and a b, and_le_l a b, and_le_r a b)
 
-pub both_at : (xs ys : List ℕ) (i : ℕ) → i < length xs → i < length ys → IsAscii (zip2 bit_or xs ys) → (get_or xs i 0 < 128) × (get_or ys i 0 < 128)
-both_at xs ys i l m h = both_small (get_or xs i 0) (get_or ys i 0) (omega (arith, get_or-zip2 bit_or xs ys i 0 0 0 l m, h i))
+-- where the lanes of two vectors or-ed are ASCII, so are the lanes of both
+both_ascii : (xs ys : List ℕ) (i : ℕ) → length xs ≡ 16 → length ys ≡ 16 → IsAscii (zip2 bit_or xs ys) → (get_or xs i 0 < 128) × (get_or ys i 0 < 128)
+both_ascii xs ys i l m h = elim (cases_lt i 16) [
+  | inl k ↦ both_small (get_or xs i 0) (get_or ys i 0) (omega (arith, get_or-zip2 bit_or xs ys i 0 0 0 (omega arith) (omega arith), h i))
+  | inr p ↦ (omega (arith, get_or_past xs i 0 (omega arith)), omega (arith, get_or_past ys i 0 (omega arith)))
+]
 
--- a text of 16 to 32 bytes is its first and its last 16
-pub from_ends : (bs : List ℕ) → 16 ≤ length bs → length bs ≤ 32 → IsAscii (zip2 bit_or (chunk 0 16 bs) (chunk 0 16 (drop (length bs - 16) bs))) → IsAscii bs
-from_ends bs long short h i =
-    let m = length bs - 16 in
-    let front = chunk 0 16 bs in
-    let back = chunk 0 16 (drop m bs) in
-    let fl : length front ≡ 16 = length-chunk 0 16 bs (omega arith) in
-    let bl : length back ≡ 16 = length-chunk 0 16 (drop m bs) (omega (arith, length-drop m bs)) in
-    elim (cases_lt i 16) [
-      | inl l ↦ subst (λ (x : ℕ). x < 128) (get_or-chunk 0 16 bs i 0 l ∙ ap (λ j. get_or bs j 0) (omega arith)) (both_at front back i (omega arith) (omega arith) h).0
-      | inr g ↦ elim (cases_lt i (length bs)) [
-        | inl l ↦
-            let k = i - m in
-            let y : m + (0 + k) ≡ i = omega arith in
-            let at : get_or back k 0 ≡ get_or bs i 0 = get_or-chunk 0 16 (drop m bs) k 0 (omega arith) ∙ get_or-drop m bs (0 + k) 0 ∙ ap (λ j. get_or bs j 0) y in
-            subst (λ (x : ℕ). x < 128) at (both_at front back k (omega arith) (omega arith) h).1
-        | inr p ↦ omega (arith, get_or_past bs i 0 (omega arith))
-      ]
-    ]
+-- where the lanes are ASCII, so are the bytes in front of `at` and those from `last` on
+pub Covers : (lanes bs : List ℕ) (at last : ℕ) → Type 0
+Covers lanes bs at last = IsAscii lanes → ((i : ℕ) → i < at → get_or bs i 0 < 128) × ((i : ℕ) → last ≤ i → get_or bs i 0 < 128)
 
--- a text of 32 to 64 bytes is its first and its last 32
-pub from_halves : (bs : List ℕ) → 32 ≤ length bs → length bs ≤ 64 → IsAscii (take 32 bs) → IsAscii (drop (length bs - 32) bs) → IsAscii bs
-from_halves bs long short front back i =
-    let m = length bs - 32 in
-    elim (cases_lt i 32) [
-      | inl l ↦ subst (λ (x : ℕ). x < 128) (get_or-take 32 bs i 0 l) (front i)
-      | inr g ↦ subst (λ (x : ℕ). x < 128) (get_or-drop m bs (i - m) 0 ∙ ap (λ j. get_or bs j 0) (omega arith)) (back (i - m))
-    ]
+-- the bytes of a load that is ASCII
+chunk_small : (bs : List ℕ) (at i : ℕ) → IsAscii (chunk at 16 bs) → at ≤ i → i < at + 16 → get_or bs i 0 < 128
+chunk_small bs at i h g l = subst (λ (x : ℕ). x < 128) (get_or-chunk at 16 bs (i - at) 0 (omega arith) ∙ ap (λ j. get_or bs j 0) (omega arith)) (h (i - at))
+
+-- the last 16 bytes
+pub covers_last : (bs : List ℕ) → 16 ≤ length bs → Covers (chunk (length bs - 16) 16 bs) bs 0 (length bs - 16)
+unfolding Covers
+covers_last bs long h = (
+  λ i l. omega arith,
+  λ i g. elim (cases_lt i (length bs)) [
+    | inl l ↦ chunk_small bs (length bs - 16) i h g (omega arith)
+    | inr p ↦ omega (arith, get_or_past bs i 0 (omega arith))
+  ],
+)
+
+-- 16 bytes more from the front
+pub covers_more : (lanes bs : List ℕ) (at last : ℕ) → length lanes ≡ 16 → at + 16 ≤ length bs → Covers lanes bs at last → Covers (zip2 bit_or lanes (chunk at 16 bs)) bs (at + 16) last
+unfolding Covers
+covers_more lanes bs at last long room had h =
+    let m : length (chunk at 16 bs) ≡ 16 = length-chunk at 16 bs room in
+    let old = had (λ i. (both_ascii lanes (chunk at 16 bs) i long m h).0) in (
+      λ i l. elim (cases_lt i at) [
+        | inl k ↦ old.0 i k
+        | inr g ↦ chunk_small bs at i (λ j. (both_ascii lanes (chunk at 16 bs) j long m h).1) (omega arith) l
+      ],
+      old.1,
+    )
+
+-- all of a text
+pub covers_all : (lanes bs : List ℕ) (at last : ℕ) → last ≤ at → Covers lanes bs at last → IsAscii lanes → IsAscii bs
+unfolding Covers
+covers_all lanes bs at last met had h i = elim (cases_lt i at) [
+  | inl l ↦ (had h).0 i l
+  | inr g ↦ (had h).1 i (omega arith)
+]

@@ -80,36 +80,30 @@ fn is_ascii(bytes: u8x16) -> bool
     bytes.simd_ge(u8x16::splat(0x80)).to_bitmask() == 0
 }
 
-// Whether a text of 16 to 32 bytes is all ASCII: its first and its last 16 are the whole.
-#[inline(always)]
-fn ends_ascii(text: &[u8]) -> bool
-    requires long { 16 ≤ length text.now }
-    requires short { length text.now ≤ 32 }
+// Whether a text is known to be ASCII, by 16 bytes at a time: the last 16, and those from the front up to them. A text of fewer than 16 bytes is not.
+fn known_ascii(text: &[u8]) -> bool
     ensures { IsTrue result → IsAscii text.now }
 {
-    let front = u8x16::from_slice(text);
-    let back = u8x16::from_slice(&text[text.len() - 16..]);
-    is_ascii(front | back)
-}
-
-// Whether a text is known to be ASCII by few looks. A text of fewer than 16 bytes, or of more than 64, is not.
-fn short_ascii(text: &[u8]) -> bool
-    ensures { IsTrue result → IsAscii text.now }
-{
-    match text.len() {
-        16..=32 => ends_ascii(text),
-        33..=64 => ends_ascii(&text[..32]) && ends_ascii(&text[text.len() - 32..]),
-        _ => false,
+    if text.len() < 16 {
+        return false;
     }
+    let last = text.len() - 16;
+    let mut seen = u8x16::from_slice(&text[last..]);
+    let mut at = 0;
+    while at < last {
+        seen |= u8x16::from_slice(&text[at..]);
+        at += 16;
+    }
+    is_ascii(seen)
 }
 
-// The first n bytes as text, where they are UTF-8. The first and the last 16 bytes are the whole of most lines, and two looks tell that they are ASCII.
+// The first n bytes as text, where they are UTF-8. Most lines are ASCII, which is told 16 bytes at a time.
 fn line_text(buf: &[u8], n: usize) -> Option<&str>
     requires { n ≤ length buf.now }
     ensures { MatchOption result (¬ (IsUtf8 (take n buf.now))) (λ s. (s.now ≡ take n buf.now) × IsUtf8 (take n buf.now)) }
 {
     let line = &buf[..n];
-    if short_ascii(line) {
+    if known_ascii(line) {
         return Some(unsafe { from_utf8_unchecked(line) });
     }
     from_utf8(line).ok()

@@ -3,4 +3,4 @@ use Rattle.std.proofs.lemmas.Str.{IsUtf8-from_ascii}
 use Rattle.sources.proofs.drive.line_text.Goals as goal
 
 pub from_utf8_unchecked-requires : goal.from_utf8_unchecked-requires
-from_utf8_unchecked-requires c = IsUtf8-from_ascii (take c.args.n c.args.buf.now) (c.short_ascii.ensures c.if-short_ascii.true)
+from_utf8_unchecked-requires c = IsUtf8-from_ascii (take c.args.n c.args.buf.now) (c.known_ascii.ensures c.if-known_ascii.true)
