@@ -22,3 +22,4 @@ pub mod Cut
 pub mod Low
 pub mod Ascii
 pub mod Folds
+pub mod Marks

@@ -3,6 +3,7 @@
 
 pub mod drive;
 pub mod fault;
+mod find;
 pub mod held;
 pub mod input;
 pub mod join;

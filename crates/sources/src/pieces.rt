@@ -3,7 +3,7 @@ ghost use Rattle.std.specs.Option.{option_map};
 ghost use Rattle.sources.specs.Pieces.{bytes_of, bytes_of_2, cut_at, past as past_of, shorn as shorn_of, up_to as up_to_of};
 ghost use Rattle.sources.specs.White.{trim as trim_of, trim_start as trim_start_of};
 
-use memchr::memchr;
+use crate::find::find;
 
 // Methods of the library, and `up_to` over them, each under a contract that is an executable definition.
 
@@ -15,7 +15,7 @@ pub fn cut(text: &str, at: char) -> Option<(&str, &str)>
         return None;
     }
     // As an ASCII character it is one byte.
-    let i = memchr(at as u8, text.as_bytes())?;
+    let i = find(at as u8, text.as_bytes())?;
     Some((&text[..i], &text[i + 1..]))
 }
 

@@ -3,7 +3,7 @@ ghost use Rattle.sources.specs.Bytes.{moved};
 ghost use Rattle.sources.specs.Given.{Given};
 ghost use Rattle.sources.specs.Texts.{Text};
 
-use memchr::memchr;
+use crate::find::find;
 
 // What one call of `piece` answers: bytes moved, or the ending, clean or broken.
 // No Result: an ending is no error, and all three are matched side by side.
@@ -29,7 +29,7 @@ pub fn reach(bytes: &[u8], room: usize) -> usize
     ensures { result ≡ moved room bytes.now }
 {
     let front = &bytes[..bytes.len().min(room)];
-    match memchr(10, front) {
+    match find(10, front) {
         Some(i) => i + 1,
         None => front.len(),
     }
