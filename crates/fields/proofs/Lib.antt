@@ -1,3 +1,4 @@
 mod Fills
+mod Cuts
 pub mod Courses
 pub mod Into

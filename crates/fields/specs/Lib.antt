@@ -3,5 +3,6 @@ pub mod Lists
 pub mod Items
 pub mod Slots
 pub mod Values
+pub mod Commas
 pub mod Slotted
 pub mod LastLines

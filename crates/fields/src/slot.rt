@@ -57,16 +57,21 @@ pub fn set_optional<T: Copy + Default + Drop>(
 }
 
 // Sets a field that may be missing, or be there and count as missing.
-pub fn set_lenient<T: Copy>(
+pub fn set_lenient<T: Copy + Default + Drop>(
     field: u32,
     slot: &Slot<Option<T>>,
     place: &mut Option<T>,
 ) -> Result<(), Fault>
     ensures { result_and result (Ok place.new) ≡ lenient_of field slot.now }
 {
-    if slot.is_none() {
-        *place = None;
-        return Ok(());
+    match slot {
+        None | Some(Ok(None)) => *place = None,
+        Some(Ok(Some(value))) => {
+            // Where it stands, as in `set_optional`.
+            let held = place.get_or_insert_default();
+            *held = *value;
+        }
+        Some(Err(_)) => return set_needed(field, slot, place),
     }
-    set_needed(field, slot, place)
+    Ok(())
 }

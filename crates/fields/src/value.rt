@@ -6,6 +6,7 @@ ghost use Rattle.sources.specs.White.{white_words};
 ghost use Rattle.fields.specs.Lists.{as_list, filled};
 ghost use Rattle.fields.specs.Values.{comma_parts, kilobytes_of, needed_word, four_of, pair_of, groups_of, spaces_of, mask_of, ranges_of, flag_of};
 
+use crate::commas::Commas;
 use crate::counted::Counted;
 use crate::item::{Group, Item, Process, Range, Word};
 use crate::list::{ListFault, fill_list, put_list};
@@ -80,7 +81,7 @@ fn put_words<I: Item, const N: usize>(slot: &mut Slot<Counted<I::Value, N>>, tex
 fn put_commas<I: Item, const N: usize>(slot: &mut Slot<Counted<I::Value, N>>, text: &str)
     ensures { (blank : _) × I.Value.is_default blank × (slot.new ≡ Some (as_list (filled I.Item.reading blank N (comma_parts text.now)))) }
 {
-    put_list::<I, _, N>(slot, text.split(','));
+    put_list::<I, _, N>(slot, Commas::new(text));
 }
 
 // Puts the groups of a process into a slot.
@@ -110,7 +111,7 @@ pub fn put_ranges(slot: &mut Slot<Option<Counted<(u32, u32), 128>>>, text: &str)
 {
     *slot = Some(Ok(Some(Counted::default())));
     if let Some(Ok(Some(list))) = slot {
-        match fill_list::<Range, _, 128>(list, text.split(',')) {
+        match fill_list::<Range, _, 128>(list, Commas::new(text)) {
             Ok(()) => {}
             Err(ListFault::Bad) => *slot = Some(Ok(None)),
             Err(ListFault::Full) => *slot = Some(Err(Fault::new(Reason::Full))),

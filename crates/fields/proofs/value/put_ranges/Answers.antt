@@ -1,7 +1,9 @@
-use Rattle.std.proofs.Common.{◌≡◌, ℕ, List, Some, Result, lit<, ap, ◌∙◌}
-use Rattle.std.proofs.lemmas.Iterator.Splits.{YieldsList-from_str_split}
+use Rattle.std.proofs.Common.{◌≡◌, ℕ, List, Some, Result, ap, ◌∙◌}
+use Rattle.std.proofs.lemmas.Iterator.Consumers.{YieldsList-from_first}
+use Rattle.sources.specs.Pieces.{bytes_of}
 use Rattle.fields.specs.declared.counted.Counted.{Counted}
 use Rattle.fields.specs.declared.list.ListFault.{ListFault}
+use Rattle.fields.specs.Commas.{commas_left}
 use Rattle.fields.specs.Items.{range_of}
 use Rattle.fields.specs.Lists.{filled, IsFilled}
 use Rattle.fields.specs.Values.{comma_parts, or_missing, ranges_of}
@@ -13,14 +15,14 @@ of_zeros bs h = let e : h.0 ≡ (0, 0) = rw (h.1.0, h.1.1) in ap or_missing (h.2
 
 pub returns-in-Ok : goal.returns-in-Ok
 returns-in-Ok c =
-    ap Some (of_zeros c.args.text.now (c.in-Ok.ensures _ (YieldsList-from_str_split 44 c.args.text.now (lit< tt) c.split.ensures.text c.split.ensures.has_more c.split.ensures.pattern).runs))
+    ap Some (of_zeros c.args.text.now (c.in-Ok.ensures _ (YieldsList-from_first bytes_of commas_left _ c.new.ensures).runs))
 
 pub returns-in-Err-Bad : goal.returns-in-Err-Bad
 returns-in-Err-Bad c =
     let h = rw c.in-Err-Bad.field-0-is at c.in-Err-Bad.ensures in
-    ap Some (of_zeros c.args.text.now (h _ (YieldsList-from_str_split 44 c.args.text.now (lit< tt) c.split.ensures.text c.split.ensures.has_more c.split.ensures.pattern).runs))
+    ap Some (of_zeros c.args.text.now (h _ (YieldsList-from_first bytes_of commas_left _ c.new.ensures).runs))
 
 pub returns-in-Err-Full : goal.returns-in-Err-Full
 returns-in-Err-Full c =
     let h = rw c.in-Err-Full.field-0-is at c.in-Err-Full.ensures in
-    rw c.new.ensures (ap Some (of_zeros c.args.text.now (h _ (YieldsList-from_str_split 44 c.args.text.now (lit< tt) c.split.ensures.text c.split.ensures.has_more c.split.ensures.pattern).runs)))
+    rw c.new-in-Err-Full.ensures (ap Some (of_zeros c.args.text.now (h _ (YieldsList-from_first bytes_of commas_left _ c.new.ensures).runs)))
