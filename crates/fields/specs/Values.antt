@@ -9,7 +9,7 @@ use Rattle.sources.specs.declared.number.Radix.TheVariants.{Decimal, Hexadecimal
 use Rattle.sources.specs.declared.reason.Reason.TheVariants.{Short}
 use Rattle.sources.specs.Faults.{fault, as_fault}
 use Rattle.sources.specs.Number.{signed, two_of, unsigned}
-use Rattle.sources.specs.Pieces.{shorn}
+use Rattle.sources.specs.Pieces.{strip_suffix}
 use Rattle.sources.specs.White.{nth, white_words}
 use Rattle.fields.specs.declared.counted.Counted.{Counted}
 use Rattle.fields.specs.declared.list.ListFault.{ListFault}
@@ -27,7 +27,7 @@ signed_of bs = as_fault (signed 31 Decimal bs)
 
 -- A figure in kB, kept as it is: the unit may stand once, at the end.
 abbrev pub kilobytes_of : List ℕ → Result ℕ Fault
-kilobytes_of bs = figure_of 64 Decimal (unwrap_or (shorn (codes " kB") bs) bs)
+kilobytes_of bs = figure_of 64 Decimal (unwrap_or (strip_suffix (codes " kB") bs) bs)
 
 -- A word that has to be there.
 abbrev pub needed_word : Option (List ℕ) → Result ℕ Fault

@@ -3,7 +3,7 @@ ghost use Rattle.std.specs.Iterator.{YieldsFirstRef, item_count};
 ghost use Rattle.fields.specs.Commas.{commas_left};
 ghost use Rattle.fields.specs.Values.{comma_parts};
 
-use sources::pieces::cut;
+use sources::pieces::split_once;
 
 // The pieces of a text between commas: one more than there are commas.
 #[derive(Drop)]
@@ -30,7 +30,7 @@ impl<'a> Iterator for Commas<'a> {
     // The piece before the first comma left, or the last piece.
     fn next(&mut self) -> Option<&'a str> {
         let rest = self.rest?;
-        match cut(rest, ',') {
+        match split_once(rest, ',') {
             Some((piece, behind)) => {
                 self.rest = Some(behind);
                 Some(piece)

@@ -6,7 +6,7 @@ ghost use Rattle.fields.specs.Items.{range_of};
 
 use sources::fault::NumberFault;
 use sources::number::{FromStrRadix, Radix};
-use sources::pieces::{cut, up_to};
+use sources::pieces::{split_once, up_to};
 use std::marker::PhantomData;
 
 // What an item of a list means: a value, or a fault, for each piece of text. A type and no closure, so that contracts name its meaning.
@@ -74,7 +74,7 @@ impl Item for Range {
 
     fn read(piece: &str) -> Result<(u32, u32), NumberFault> {
         // Without a hyphen the first number is the last too.
-        let (first, last) = cut(piece, '-').unwrap_or((piece, piece));
+        let (first, last) = split_once(piece, '-').unwrap_or((piece, piece));
         Ok((
             <u32 as FromStrRadix>::from_str_radix(first, Radix::Decimal)?,
             <u32 as FromStrRadix>::from_str_radix(up_to(last, '-'), Radix::Decimal)?,

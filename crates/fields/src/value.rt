@@ -13,7 +13,7 @@ use crate::list::{ListFault, fill_list, put_list};
 use crate::slot::Slot;
 use sources::fault::Fault;
 use sources::number::{FromStrRadix, Radix, split_into_num};
-use sources::pieces::shorn;
+use sources::pieces::strip_suffix;
 use sources::reason::Reason;
 
 // A number.
@@ -27,7 +27,7 @@ pub fn figure<T: FromStrRadix>(text: &str, radix: Radix) -> Result<T, Fault>
 pub fn kilobytes(text: &str) -> Result<u64, Fault>
     ensures { result ≡ kilobytes_of text.now }
 {
-    figure(shorn(text, " kB").unwrap_or(text), Radix::Decimal)
+    figure(strip_suffix(text, " kB").unwrap_or(text), Radix::Decimal)
 }
 
 // The four numbers of a process's owner, or what is wrong with each.

@@ -8,7 +8,7 @@ use Rattle.sources.specs.declared.number.Radix.TheVariants.{Decimal, Hexadecimal
 use Rattle.sources.specs.declared.reason.Reason.TheVariants.{Short}
 use Rattle.sources.specs.Faults.{fault, as_fault, and_then}
 use Rattle.sources.specs.Number.{unsigned, signed, two_of}
-use Rattle.sources.specs.Pieces.{bytes_of_2, cut_at}
+use Rattle.sources.specs.Pieces.{bytes_of_2, split_once}
 use Rattle.kinds.specs.declared.mapping.MemoryMap.{MemoryMap}
 use Rattle.kinds.specs.Path.{Named, told, path_of}
 use Rattle.kinds.specs.Perms.{perms_of}
@@ -30,7 +30,7 @@ seen_map r = result_map_both told_map (λ f. f) r
 
 -- Up to the first space, and what follows it.
 abbrev pub piece : List ℕ → Result (List ℕ × List ℕ) Fault
-piece bs = ok_or (cut_at 32 bs) (fault Short)
+piece bs = ok_or (split_once 32 bs) (fault Short)
 
 abbrev pub seen_piece : Result (Bor (List ℕ) × Bor (List ℕ)) Fault → Result (List ℕ × List ℕ) Fault
 seen_piece r = result_map_both bytes_of_2 (λ f. f) r

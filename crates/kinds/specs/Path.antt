@@ -12,7 +12,7 @@ use Rattle.sources.specs.declared.reason.Reason.TheVariants.{Torn}
 use Rattle.sources.specs.AsText.{as_text}
 use Rattle.sources.specs.Faults.{fault, as_fault, and_then, at_line}
 use Rattle.sources.specs.Number.{unsigned}
-use Rattle.sources.specs.Pieces.{case_of, up_to, past, shorn}
+use Rattle.sources.specs.Pieces.{case_of, up_to, strip_prefix, strip_suffix}
 use Rattle.sources.specs.White.{trim, trim_start}
 use Rattle.kinds.specs.declared.path.MMapPath.{MMapPath}
 use Rattle.kinds.specs.declared.path.MMapPath.TheVariants as code
@@ -47,12 +47,12 @@ seen r = result_map_both told (λ f. f) r
 -- What follows "[stack:": a number up to the next colon, before a last "]".
 abbrev pub thread_of : List ℕ → Result Named Fault
 thread_of rest =
-    and_then (ok_or (shorn (codes "]") rest) (fault Torn)) (λ inner.
+    and_then (ok_or (strip_suffix (codes "]") rest) (fault Torn)) (λ inner.
     and_then (as_fault (unsigned 32 Decimal (up_to 58 inner))) (λ n. Ok (tstack n)))
 
 -- The name between square brackets.
 abbrev pub bracketed : List ℕ → Option (List ℕ)
-bracketed bs = case_of (past (codes "[") bs) None (shorn (codes "]"))
+bracketed bs = case_of (strip_prefix (codes "[") bs) None (strip_suffix (codes "]"))
 
 -- Eight digits of base 16, as a signed number of 32 bits.
 abbrev pub eight : List ℕ → Option ℤ
@@ -60,7 +60,7 @@ eight ds = cond (length ds == 8 && not (slice_index ds 0 == 43)) (option_map (to
 
 -- The key of a shared memory segment: eight digits that end the path or stand before a last " (deleted)".
 abbrev pub segment_key : List ℕ → Option ℤ
-segment_key bs = case_of (past (codes "/SYSV") bs) None (λ rest. eight (unwrap_or (shorn (codes " (deleted)") rest) rest))
+segment_key bs = case_of (strip_prefix (codes "/SYSV") bs) None (λ rest. eight (unwrap_or (strip_suffix (codes " (deleted)") rest) rest))
 
 -- The name of a file, which keeps white space at its end.
 abbrev pub file_of : List ℕ → List ℕ
@@ -69,7 +69,7 @@ file_of bs = up_to 10 (trim_start bs)
 -- Any name that is not one of the plain ones, of the path `bs`.
 abbrev pub named_of : List ℕ → List ℕ → Result Named Fault
 named_of name bs =
-    case_of (past (codes "[stack:") name)
+    case_of (strip_prefix (codes "[stack:") name)
     (case_of (bracketed name) (case_of (segment_key name) (Ok (path (file_of bs))) (λ z. Ok (vsys z))) (λ n. Ok (other n)))
     thread_of
 

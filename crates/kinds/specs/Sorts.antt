@@ -4,7 +4,7 @@ use Rattle.std.specs.Option.{option_map}
 use Rattle.std.specs.Result.{result_map_both}
 use Rattle.std.specs.Str.{bytes_eq}
 use Rattle.sources.specs.declared.fault.Fault.{Fault}
-use Rattle.sources.specs.Pieces.{case_of, past}
+use Rattle.sources.specs.Pieces.{case_of, strip_prefix}
 use Rattle.kinds.specs.declared.sort.Key.{Key}
 use Rattle.kinds.specs.declared.sort.Key.TheVariants.{Rss, Pss, SwapPss}
 use Rattle.kinds.specs.declared.sort.Setting.{Setting}
@@ -24,7 +24,7 @@ set_by (Some e) = option_map (λ k. record { key = k; amount = e.amount }) (meas
 
 -- What an attribute line sets, where it is good; "VmFlags" sets no key.
 abbrev pub setting_of : List ℕ → Result (Option Setting) Fault
-setting_of line = case_of (past (codes "VmFlags") line) (result_map_both set_by (λ f. f) (entry_of line)) (λ _. Ok None)
+setting_of line = case_of (strip_prefix (codes "VmFlags") line) (result_map_both set_by (λ f. f) (entry_of line)) (λ _. Ok None)
 
 -- Whether the first byte is one of A to Z.
 abbrev pub capital : List ℕ → Bool

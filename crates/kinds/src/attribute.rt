@@ -3,7 +3,7 @@ ghost use Rattle.kinds.specs.Attribute.{bare as bare_of, entry_of, scaled as sca
 
 use sources::fault::Fault;
 use sources::number::{FromStrRadix, Radix};
-use sources::pieces::shorn;
+use sources::pieces::strip_suffix;
 use sources::reason::Reason;
 use sources::words::{has_word, next_word};
 
@@ -20,7 +20,7 @@ fn bare(word: &str) -> &str
     ensures { result.now ≡ bare_of word.now }
 {
     let mut rest = word;
-    while let Some(front) = shorn(rest, ":") {
+    while let Some(front) = strip_suffix(rest, ":") {
         rest = front;
     }
     rest

@@ -5,7 +5,7 @@ use crate::path::MMapPath;
 use crate::perms::MMPermissions;
 use sources::fault::Fault;
 use sources::number::{FromStrRadix, Radix, split_into_num};
-use sources::pieces::cut;
+use sources::pieces::split_once;
 use sources::reason::Reason;
 
 // One mapping, as its line says it.
@@ -23,7 +23,7 @@ pub struct MemoryMap<'a> {
 fn piece(text: &str) -> Result<(&str, &str), Fault>
     ensures { seen_piece result ≡ piece_of text.now }
 {
-    cut(text, ' ').ok_or(Fault::new(Reason::Short))
+    split_once(text, ' ').ok_or(Fault::new(Reason::Short))
 }
 
 impl<'a> MemoryMap<'a> {

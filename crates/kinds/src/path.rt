@@ -5,7 +5,7 @@ ghost use Rattle.sources.specs.Pieces.{bytes_of};
 
 use sources::fault::{Fault, Refusal, at_line};
 use sources::number::{FromStrRadix, Radix};
-use sources::pieces::{past, shorn, trimmed, trimmed_start, up_to};
+use sources::pieces::{strip_prefix, strip_suffix, trimmed, trimmed_start, up_to};
 use sources::reason::Reason;
 use sources::text::text;
 
@@ -29,7 +29,7 @@ pub enum MMapPath<'a> {
 fn read_thread(rest: &str) -> Result<MMapPath<'_>, Fault>
     ensures { seen result ≡ thread_of rest.now }
 {
-    let inner = shorn(rest, "]").ok_or(Fault::new(Reason::Torn))?;
+    let inner = strip_suffix(rest, "]").ok_or(Fault::new(Reason::Torn))?;
     let tid = FromStrRadix::from_str_radix(up_to(inner, ':'), Radix::Decimal)?;
     Ok(MMapPath::TStack(tid))
 }
@@ -38,7 +38,7 @@ fn read_thread(rest: &str) -> Result<MMapPath<'_>, Fault>
 fn bracketed(name: &str) -> Option<&str>
     ensures { option_map bytes_of result ≡ bracketed_of name.now }
 {
-    shorn(past(name, "[")?, "]")
+    strip_suffix(strip_prefix(name, "[")?, "]")
 }
 
 // Eight digits of base 16, as a signed number of 32 bits.
@@ -57,8 +57,8 @@ fn eight(digits: &str) -> Option<i32>
 fn read_key(name: &str) -> Option<i32>
     ensures { result ≡ segment_key name.now }
 {
-    let rest = past(name, "/SYSV")?;
-    eight(shorn(rest, " (deleted)").unwrap_or(rest))
+    let rest = strip_prefix(name, "/SYSV")?;
+    eight(strip_suffix(rest, " (deleted)").unwrap_or(rest))
 }
 
 // The name of a file: white space in front is dropped, and it runs on to byte 10 or the end.
@@ -72,7 +72,7 @@ fn file_name(text: &str) -> &str
 fn read_named<'a>(name: &'a str, text: &'a str) -> Result<MMapPath<'a>, Fault>
     ensures { seen result ≡ named_of name.now text.now }
 {
-    if let Some(rest) = past(name, "[stack:") {
+    if let Some(rest) = strip_prefix(name, "[stack:") {
         return read_thread(rest);
     }
     if let Some(inner) = bracketed(name) {

@@ -4,7 +4,7 @@ ghost use Rattle.kinds.specs.Sorts.{sort_of, setting_of, measured_key, capital};
 use crate::attribute::Attribute;
 use crate::mapping::MemoryMap;
 use sources::fault::Fault;
-use sources::pieces::past;
+use sources::pieces::strip_prefix;
 
 // The keys that are measured.
 #[derive(Clone, Copy)]
@@ -44,7 +44,7 @@ fn key_of(name: &str) -> Option<Key>
 fn setting_of(line: &str) -> Result<Option<Setting>, Fault>
     ensures { result ≡ setting_of line.now }
 {
-    if past(line, "VmFlags").is_some() {
+    if strip_prefix(line, "VmFlags").is_some() {
         return Ok(None);
     }
     let Some(Attribute { key, amount }) = Attribute::from_line(line)? else {

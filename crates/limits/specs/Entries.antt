@@ -4,7 +4,7 @@ use Rattle.std.specs.Option.{option_map}
 use Rattle.sources.specs.declared.fault.Fault.{Fault}
 use Rattle.sources.specs.declared.reason.Reason.TheVariants.{Short}
 use Rattle.sources.specs.Faults.{fault}
-use Rattle.sources.specs.Pieces.{past}
+use Rattle.sources.specs.Pieces.{strip_prefix}
 use Rattle.sources.specs.White.{trim, white_words}
 use Rattle.limits.specs.declared.line.Setting.{Setting}
 use Rattle.limits.specs.Names.{place_of}
@@ -16,11 +16,11 @@ Entry = ℕ × (List ℕ × List ℕ)
 
 -- Whether a trimmed line is the heading.
 abbrev pub is_heading : List ℕ → Bool
-is_heading t = is_some (past (codes "Limit") t)
+is_heading t = is_some (strip_prefix (codes "Limit") t)
 
 -- Whether it is of one of the two limits that have no unit.
 abbrev pub unitless : List ℕ → Bool
-unitless t = is_some (past (codes "Max nice priority") t) || is_some (past (codes "Max realtime priority") t)
+unitless t = is_some (strip_prefix (codes "Max nice priority") t) || is_some (strip_prefix (codes "Max realtime priority") t)
 
 -- How many words stand behind the name: the soft limit, the hard one and, where there is one, the unit.
 abbrev pub words_behind : List ℕ → ℕ

@@ -3,7 +3,7 @@ ghost use Rattle.std.specs.Prelude.{◌≡◌, ◌<◌};
 use crate::names::{named, place_of};
 use crate::words::{count_words, word_at, words_behind};
 use sources::fault::Fault;
-use sources::pieces::{past, trimmed};
+use sources::pieces::{strip_prefix, trimmed};
 use sources::reason::Reason;
 
 // What a line says of a limit: the place of its field, from 0 on, and the words of the soft limit and the hard one.
@@ -38,7 +38,7 @@ impl<'a> Setting<'a> {
         ensures { seen_entry result ≡ entry_of line.now }
     {
         let text = trimmed(line);
-        if past(text, "Limit").is_some() {
+        if strip_prefix(text, "Limit").is_some() {
             return Ok(None);
         }
         if let Some(setting) = Setting::plain(text) {

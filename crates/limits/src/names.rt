@@ -3,7 +3,7 @@ ghost use Rattle.sources.specs.White.{white_words};
 ghost use Rattle.limits.specs.Names.{names, place_of};
 
 use crate::words::same_words;
-use sources::pieces::past;
+use sources::pieces::strip_prefix;
 
 // The names of the limits, in the order of the fields.
 const NAMES: [&str; 16] = [
@@ -47,6 +47,6 @@ pub fn named(text: &str) -> Option<(usize, &str)>
     ensures text { IfSome result (λ p. text.now ≡ slice_index_or names p.0 [] ++ (32 ∷ p.1.now)) }
 {
     let place = NAMES.iter().position(|own| text.starts_with(own))?;
-    let rest = past(past(text, name(place))?, " ")?;
+    let rest = strip_prefix(strip_prefix(text, name(place))?, " ")?;
     Some((place, rest))
 }

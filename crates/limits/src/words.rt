@@ -3,7 +3,7 @@ ghost use Rattle.sources.specs.White.{white_words};
 ghost use Rattle.limits.specs.Entries.{unitless as unitless_of, words_behind};
 ghost use Rattle.limits.specs.Words.{same_words, word_at};
 
-use sources::pieces::past;
+use sources::pieces::strip_prefix;
 
 // How many words a text has.
 pub fn count_words(text: &str) -> usize
@@ -31,7 +31,7 @@ pub fn same_words(text: &str, n: usize, name: &str) -> bool
 fn unitless(text: &str) -> bool
     ensures { result ≡ unitless_of text.now }
 {
-    past(text, "Max nice priority").is_some() || past(text, "Max realtime priority").is_some()
+    strip_prefix(text, "Max nice priority").is_some() || strip_prefix(text, "Max realtime priority").is_some()
 }
 
 // How many words stand behind the name.

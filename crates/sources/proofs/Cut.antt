@@ -7,7 +7,7 @@ use Rattle.std.specs.Option.{is_some}
 use Rattle.std.proofs.lemmas.List.Sums.{prefix_len-le-length}
 use Rattle.std.proofs.lemmas.Bool.Decides.{nat_tests}
 use Rattle.std.proofs.lemmas.Bool.{eqb-true}
-use Rattle.sources.specs.Pieces.{past, case_of}
+use Rattle.sources.specs.Pieces.{strip_prefix, case_of}
 use Rattle.sources.specs.White.{nth}
 use Rattle.sources.specs.Words.{in_word, onto, before_words, ascii_words}
 
@@ -20,17 +20,17 @@ abbrev spaces : ℕ → List ℕ
 spaces zero = []
 spaces (suc n) = 32 ∷ spaces n
 
-one_passed : (b n : ℕ) (bs m : List ℕ) → ((k : List ℕ) → past (spaces n) bs ≡ Some k → ascii_words bs ≡ ascii_words k)
-    → (t : Bool) → (b == 32) ≡ t → cond t (past (spaces n) bs) None ≡ Some m → ascii_words (b ∷ bs) ≡ ascii_words m
+one_passed : (b n : ℕ) (bs m : List ℕ) → ((k : List ℕ) → strip_prefix (spaces n) bs ≡ Some k → ascii_words bs ≡ ascii_words k)
+    → (t : Bool) → (b == 32) ≡ t → cond t (strip_prefix (spaces n) bs) None ≡ Some m → ascii_words (b ∷ bs) ≡ ascii_words m
 one_passed b n bs m f true t e = ap (λ (c : ℕ). ascii_words (c ∷ bs)) (eqb-true b 32 t) ∙ f m e
 one_passed b n bs m f false t e = cc
 
-spaces_passed : (n : ℕ) (bs m : List ℕ) → past (spaces n) bs ≡ Some m → ascii_words bs ≡ ascii_words m
+spaces_passed : (n : ℕ) (bs m : List ℕ) → strip_prefix (spaces n) bs ≡ Some m → ascii_words bs ≡ ascii_words m
 spaces_passed zero bs m e = ap (λ (o : Option (List ℕ)). ascii_words (case_of o bs (λ k. k))) e
 spaces_passed (suc n) [] m e = cc
 spaces_passed (suc n) (b ∷ bs) m e = one_passed b n bs m (spaces_passed n bs) (b == 32) refl e
 
-pub eight_passed : (bs m : List ℕ) → past (32 ∷ 32 ∷ 32 ∷ 32 ∷ 32 ∷ 32 ∷ 32 ∷ 32 ∷ []) bs ≡ Some m → ascii_words bs ≡ ascii_words m
+pub eight_passed : (bs m : List ℕ) → strip_prefix (32 ∷ 32 ∷ 32 ∷ 32 ∷ 32 ∷ 32 ∷ 32 ∷ 32 ∷ []) bs ≡ Some m → ascii_words bs ≡ ascii_words m
 eight_passed bs m e = spaces_passed 8 bs m e
 
 -- a byte of a word before a byte c and others, of which n begin with more of the word

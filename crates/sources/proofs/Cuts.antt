@@ -2,7 +2,7 @@ use Rattle.std.proofs.Common.{◌≡◌, ◌∙◌, ℕ, zero, suc, ◌+◌, ◌
 use Rattle.std.specs.Option.{option_map}
 use Rattle.std.proofs.lemmas.Bool.{eqb-true}
 use Rattle.memchr.specs.Find.{IsFirstByte, is_byte}
-use Rattle.sources.specs.Pieces.{cut, cut_at}
+use Rattle.sources.specs.Pieces.{split_at_byte, split_once}
 
 -- no byte of bs is c
 abbrev pub Lacks : ℕ → List ℕ → Type 0
@@ -14,30 +14,30 @@ lacks_head c x xs h = ne_eqb x c (h 0 (omega arith))
 lacks_tail : (c x : ℕ) (xs : List ℕ) → Lacks c (x ∷ xs) → Lacks c xs
 lacks_tail c x xs h i lt = h (suc i) (omega arith)
 
-pub cut-none : (c : ℕ) (bs : List ℕ) → Lacks c bs → cut c bs ≡ None
-cut-none c [] h = refl
-cut-none c (x ∷ xs) h = rw (lacks_head c x xs h, cut-none c xs (lacks_tail c x xs h))
+pub split_at_byte-none : (c : ℕ) (bs : List ℕ) → Lacks c bs → split_at_byte c bs ≡ None
+split_at_byte-none c [] h = refl
+split_at_byte-none c (x ∷ xs) h = rw (lacks_head c x xs h, split_at_byte-none c xs (lacks_tail c x xs h))
 
 more : (i : ℕ) → suc (i + 1) ≡ suc i + 1
 more i = omega arith
 
 -- told by a search for the byte
-pub cut-at : (c : ℕ) (bs : List ℕ) (i : ℕ) → i < length bs → eqb (get_or bs i 0) c ≡ true → ((k : ℕ) → k < i → eqb (get_or bs k 0) c ≡ true → ⊥) → cut c bs ≡ Some (take i bs, drop (i + 1) bs)
-cut-at c [] i l e h = absurd (omega arith)
-cut-at c (x ∷ xs) zero l e h = rw e
-cut-at c (x ∷ xs) (suc i) l e h =
-    let ih = cut-at c xs i (omega arith) e (λ k l e. h (suc k) (omega arith) e) in
-    elim (eqb x c) as (λ t. eqb x c ≡ t → cond {A = Option (List ℕ × List ℕ)} t (Some ([], xs)) (option_map (λ p. (x ∷ p.0, p.1)) (cut c xs)) ≡ Some (x ∷ take i xs, drop (suc i + 1) (x ∷ xs))) [
+pub split_at_byte-at : (c : ℕ) (bs : List ℕ) (i : ℕ) → i < length bs → eqb (get_or bs i 0) c ≡ true → ((k : ℕ) → k < i → eqb (get_or bs k 0) c ≡ true → ⊥) → split_at_byte c bs ≡ Some (take i bs, drop (i + 1) bs)
+split_at_byte-at c [] i l e h = absurd (omega arith)
+split_at_byte-at c (x ∷ xs) zero l e h = rw e
+split_at_byte-at c (x ∷ xs) (suc i) l e h =
+    let ih = split_at_byte-at c xs i (omega arith) e (λ k l e. h (suc k) (omega arith) e) in
+    elim (eqb x c) as (λ t. eqb x c ≡ t → cond {A = Option (List ℕ × List ℕ)} t (Some ([], xs)) (option_map (λ p. (x ∷ p.0, p.1)) (split_at_byte c xs)) ≡ Some (x ∷ take i xs, drop (suc i + 1) (x ∷ xs))) [
       | true ↦ λ e. absurd (h 0 (omega arith) e)
       | false ↦ λ e. ap (option_map (λ (p : List ℕ × List ℕ). (x ∷ p.0, p.1))) ih ∙ ap (λ (n : ℕ). Some (x ∷ take i xs, drop n (x ∷ xs))) (more i)
     ] refl
 
-pub cut_found : (c : ℕ) (bs : List ℕ) (r : Option ℕ) → IsFirstByte (is_byte c) bs r → cut c bs ≡ option_map (λ i. (take i bs, drop (i + 1) bs)) r
-cut_found c bs None h = cut-none c bs (λ k l e. h k (omega arith) l (eq-eqb (get_or bs k 0) c e))
-cut_found c bs (Some i) h = cut-at c bs i h.0.high h.1 (λ k l e. h.0.before k (omega arith) l e)
+pub cut_found : (c : ℕ) (bs : List ℕ) (r : Option ℕ) → IsFirstByte (is_byte c) bs r → split_at_byte c bs ≡ option_map (λ i. (take i bs, drop (i + 1) bs)) r
+cut_found c bs None h = split_at_byte-none c bs (λ k l e. h k (omega arith) l (eq-eqb (get_or bs k 0) c e))
+cut_found c bs (Some i) h = split_at_byte-at c bs i h.0.high h.1 (λ k l e. h.0.before k (omega arith) l e)
 
-pub cut_ascii : (c : ℕ) (bs : List ℕ) → c < 128 → cut_at c bs ≡ cut c bs
-cut_ascii c bs l = ap (λ (b : Bool). cond b (cut c bs) None) (lt-ltb c 128 l)
+pub cut_ascii : (c : ℕ) (bs : List ℕ) → c < 128 → split_once c bs ≡ split_at_byte c bs
+cut_ascii c bs l = ap (λ (b : Bool). cond b (split_at_byte c bs) None) (lt-ltb c 128 l)
 
 -- An ASCII byte that is found
 pub found_byte : (c : ℕ) (bs : List ℕ) (r : Option ℕ) (i : ℕ) → IsFirstByte (is_byte c) bs r → r ≡ Some i → c < 128 → (i < length bs) × (get_or bs i 0 < 128)

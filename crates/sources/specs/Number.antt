@@ -8,7 +8,7 @@ use Rattle.sources.specs.declared.fault.NumberFault.TheVariants.{Unreadable}
 use Rattle.sources.specs.declared.fault.Fault.{Fault}
 use Rattle.sources.specs.declared.reason.Reason.TheVariants.{Short}
 use Rattle.sources.specs.Faults.{fault, as_fault, and_then}
-use Rattle.sources.specs.Pieces.{cut_at, up_to}
+use Rattle.sources.specs.Pieces.{split_once, up_to}
 use Rattle.sources.specs.declared.number.Radix.{Radix}
 use Rattle.sources.specs.declared.number.Radix.TheVariants.{Octal, Decimal, Hexadecimal}
 
@@ -49,6 +49,6 @@ signed bits radix bs =
 abbrev pub two_of : {X : Type 0} → (List ℕ → Result X NumberFault) → ℕ → List ℕ → Result (X × X) Fault
 two_of {X} R at bs =
     and_then (as_fault (R (up_to at bs))) (λ a.
-    and_then (ok_or (cut_at at bs) (fault Short)) (λ p.
+    and_then (ok_or (split_once at bs) (fault Short)) (λ p.
     and_then (as_fault (R (up_to at p.1))) (λ b.
     Ok (a, b))))

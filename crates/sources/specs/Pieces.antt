@@ -4,13 +4,13 @@ use Rattle.std.specs.Borrow.{Bor}
 use Rattle.std.specs.Option.{option_map}
 
 -- What stands before the first byte c and what stands after it, where there is one
-abbrev pub cut : ℕ → List ℕ → Option (List ℕ × List ℕ)
-cut c [] = None
-cut c (x ∷ xs) = cond (x == c) (Some ([], xs)) (option_map (λ p. (x ∷ p.0, p.1)) (cut c xs))
+abbrev pub split_at_byte : ℕ → List ℕ → Option (List ℕ × List ℕ)
+split_at_byte c [] = None
+split_at_byte c (x ∷ xs) = cond (x == c) (Some ([], xs)) (option_map (λ p. (x ∷ p.0, p.1)) (split_at_byte c xs))
 
 -- The same for any character: one that is not ASCII cuts nothing.
-abbrev pub cut_at : ℕ → List ℕ → Option (List ℕ × List ℕ)
-cut_at c bs = cond (nat_lt c 128) (cut c bs) None
+abbrev pub split_once : ℕ → List ℕ → Option (List ℕ × List ℕ)
+split_once c bs = cond (nat_lt c 128) (split_at_byte c bs) None
 
 -- A value by cases on an option.
 abbrev pub case_of : {X Y : Type 0} → Option X → Y → (X → Y) → Y
@@ -19,21 +19,21 @@ case_of (Some x) n s = s x
 
 -- The part before the first character c, or all.
 abbrev pub up_to : ℕ → List ℕ → List ℕ
-up_to c bs = case_of (cut_at c bs) bs (λ p. p.0)
+up_to c bs = case_of (split_once c bs) bs (λ p. p.0)
 
 -- Two borrowed texts, by their bytes.
 abbrev pub bytes_of_2 : Bor (List ℕ) × Bor (List ℕ) → List ℕ × List ℕ
 bytes_of_2 p = (p.0.now, p.1.now)
 
 -- What follows the bytes p, where the text begins with them
-abbrev pub past : List ℕ → List ℕ → Option (List ℕ)
-past [] bs = Some bs
-past (c ∷ cs) [] = None
-past (c ∷ cs) (b ∷ bs) = cond (b == c) (past cs bs) None
+abbrev pub strip_prefix : List ℕ → List ℕ → Option (List ℕ)
+strip_prefix [] bs = Some bs
+strip_prefix (c ∷ cs) [] = None
+strip_prefix (c ∷ cs) (b ∷ bs) = cond (b == c) (strip_prefix cs bs) None
 
 -- What stands before the bytes p, where the text ends with them
-abbrev pub shorn : List ℕ → List ℕ → Option (List ℕ)
-shorn p bs = option_map reverse (past (reverse p) (reverse bs))
+abbrev pub strip_suffix : List ℕ → List ℕ → Option (List ℕ)
+strip_suffix p bs = option_map reverse (strip_prefix (reverse p) (reverse bs))
 
 -- A borrowed text, by its bytes.
 abbrev pub bytes_of : Bor (List ℕ) → List ℕ

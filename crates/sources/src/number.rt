@@ -7,7 +7,7 @@ ghost use Rattle.sources.specs.declared.number.Radix.{Radix as RadixOf};
 ghost use Rattle.sources.specs.Number.{base_of, numeral, unsigned, signed, two_of};
 
 use crate::fault::{Fault, NumberFault};
-use crate::pieces::{cut, up_to};
+use crate::pieces::{split_once, up_to};
 use crate::reason::Reason;
 use std::num::ParseIntError;
 
@@ -135,7 +135,7 @@ pub fn split_into_num<T: FromStrRadix + Drop>(
     ensures { result ≡ two_of (T.FromStrRadix.reading radix) at text.now }
 {
     let first = T::from_str_radix(up_to(text, at), radix)?;
-    let (_, rest) = cut(text, at).ok_or(Fault::new(Reason::Short))?;
+    let (_, rest) = split_once(text, at).ok_or(Fault::new(Reason::Short))?;
     let second = T::from_str_radix(up_to(rest, at), radix)?;
     Ok((first, second))
 }

@@ -1,6 +1,6 @@
 ghost use Rattle.std.specs.Prelude.{◌≡◌};
 ghost use Rattle.std.specs.Option.{option_map};
-ghost use Rattle.sources.specs.Pieces.{bytes_of, bytes_of_2, cut_at, past as past_of, shorn as shorn_of, up_to as up_to_of};
+ghost use Rattle.sources.specs.Pieces.{bytes_of, bytes_of_2, split_once as split_once_of, strip_prefix as strip_prefix_of, strip_suffix as strip_suffix_of, up_to as up_to_of};
 ghost use Rattle.sources.specs.White.{trim as trim_of, trim_start as trim_start_of};
 
 use crate::find::find;
@@ -8,8 +8,8 @@ use crate::find::find;
 // Methods of the library, and `up_to` over them, each under a contract that is an executable definition.
 
 // What stands before the first `at`, an ASCII character, and what stands after it.
-pub fn cut(text: &str, at: char) -> Option<(&str, &str)>
-    ensures { option_map bytes_of_2 result ≡ cut_at at text.now }
+pub fn split_once(text: &str, at: char) -> Option<(&str, &str)>
+    ensures { option_map bytes_of_2 result ≡ split_once_of at text.now }
 {
     if at >= '\u{80}' {
         return None;
@@ -23,7 +23,7 @@ pub fn cut(text: &str, at: char) -> Option<(&str, &str)>
 pub fn up_to(text: &str, at: char) -> &str
     ensures { result.now ≡ up_to_of at text.now }
 {
-    cut(text, at).map_or(text, |(front, _)| front)
+    split_once(text, at).map_or(text, |(front, _)| front)
 }
 
 // The text without ASCII white space in front of it: values stand behind a tab and columns of spaces, which are passed byte by byte here.
@@ -49,15 +49,15 @@ pub fn trimmed_start(text: &str) -> &str
 }
 
 // What follows `front`, where the text begins with it.
-pub fn past<'a>(text: &'a str, front: &str) -> Option<&'a str>
-    ensures { option_map bytes_of result ≡ past_of front.now text.now }
+pub fn strip_prefix<'a>(text: &'a str, front: &str) -> Option<&'a str>
+    ensures { option_map bytes_of result ≡ strip_prefix_of front.now text.now }
 {
     text.strip_prefix(front)
 }
 
 // What stands before `end`, where the text ends with it.
-pub fn shorn<'a>(text: &'a str, end: &str) -> Option<&'a str>
-    ensures { option_map bytes_of result ≡ shorn_of end.now text.now }
+pub fn strip_suffix<'a>(text: &'a str, end: &str) -> Option<&'a str>
+    ensures { option_map bytes_of result ≡ strip_suffix_of end.now text.now }
 {
     text.strip_suffix(end)
 }

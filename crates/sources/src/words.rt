@@ -5,7 +5,7 @@ ghost use Rattle.std.specs.Simd.Lanes.{mask_l};
 ghost use Rattle.sources.specs.White.{nth};
 ghost use Rattle.sources.specs.Words.{ascii_words, in_word};
 
-use crate::pieces::past;
+use crate::pieces::strip_prefix;
 use std::simd::prelude::*;
 
 // Which of the bytes are a space or stand below it: bit k is set where byte k is or does.
@@ -56,7 +56,7 @@ fn past_gap(text: &str) -> &str
     ensures { ascii_words result.now ≡ ascii_words text.now }
 {
     let mut rest = text;
-    while let Some(more) = past(rest, "        ") {
+    while let Some(more) = strip_prefix(rest, "        ") {
         rest = more;
     }
     rest

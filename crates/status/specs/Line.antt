@@ -5,14 +5,14 @@ use Rattle.std.specs.Option.{option_map, unwrap_or}
 use Rattle.sources.specs.declared.fault.Fault.{Fault}
 use Rattle.sources.specs.declared.reason.Reason.TheVariants.{Short}
 use Rattle.sources.specs.Faults.{fault}
-use Rattle.sources.specs.Pieces.{case_of, cut_at, up_to, shorn}
+use Rattle.sources.specs.Pieces.{case_of, split_once, up_to, strip_suffix}
 use Rattle.sources.specs.White.{trim}
 use Rattle.fields.specs.Slots.{Entry}
 use Rattle.status.specs.Names.{field_of}
 
 -- The line without its byte 10, and without a byte 13 before that one.
 abbrev pub sheared : List ℕ → List ℕ
-sheared line = case_of (shorn (10 ∷ []) line) line (λ front. unwrap_or (shorn (13 ∷ []) front) front)
+sheared line = case_of (strip_suffix (10 ∷ []) line) line (λ front. unwrap_or (strip_suffix (13 ∷ []) front) front)
 
 -- The value of a field, in what follows the first colon: up to the next one or, of the name, all; without white space around it.
 abbrev pub value_of : ℕ → List ℕ → List ℕ
@@ -24,7 +24,7 @@ entry_in p = option_map (λ number. (number, value_of number p.1)) (field_of p.0
 
 -- What a line without its end says: nothing where it is empty, and it needs a colon otherwise.
 abbrev pub entry_of_text : List ℕ → Result (Option Entry) Fault
-entry_of_text text = cond (length text == 0) (Ok None) (case_of (cut_at 58 text) (Err (fault Short)) (λ p. Ok (entry_in p)))
+entry_of_text text = cond (length text == 0) (Ok None) (case_of (split_once 58 text) (Err (fault Short)) (λ p. Ok (entry_in p)))
 
 abbrev pub entry_of : List ℕ → Result (Option Entry) Fault
 entry_of line = entry_of_text (sheared line)

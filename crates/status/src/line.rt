@@ -3,17 +3,17 @@ ghost use Rattle.status.specs.Line.{sheared as sheared_of, value_of, entry_of, s
 
 use crate::names::field_of;
 use sources::fault::Fault;
-use sources::pieces::{cut, shorn, trimmed, up_to};
+use sources::pieces::{split_once, strip_suffix, trimmed, up_to};
 use sources::reason::Reason;
 
 // The line without its end.
 fn sheared(line: &str) -> &str
     ensures { result.now ≡ sheared_of line.now }
 {
-    let Some(front) = shorn(line, "\n") else {
+    let Some(front) = strip_suffix(line, "\n") else {
         return line;
     };
-    shorn(front, "\r").unwrap_or(front)
+    strip_suffix(front, "\r").unwrap_or(front)
 }
 
 // The value of a field, in what follows the first colon: the name of a process may have colons of its own.
@@ -31,6 +31,6 @@ pub(crate) fn entry(line: &str) -> Result<Option<(u8, &str)>, Fault>
     if text.is_empty() {
         return Ok(None);
     }
-    let (name, rest) = cut(text, ':').ok_or(Fault::new(Reason::Short))?;
+    let (name, rest) = split_once(text, ':').ok_or(Fault::new(Reason::Short))?;
     Ok(field_of(name).map(|number| (number, value(number, rest))))
 }

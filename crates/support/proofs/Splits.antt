@@ -3,7 +3,7 @@ use Rattle.std.proofs.Common.{◌≡◌, ℕ, Bool, true, false, cond, List, [],
 use Rattle.std.specs.List.{onto_first}
 use Rattle.std.specs.Option.{option_map}
 use Rattle.std.specs.Prelude.{◌==◌}
-use Rattle.sources.specs.Pieces.{case_of, cut}
+use Rattle.sources.specs.Pieces.{case_of, split_at_byte}
 use Rattle.support.specs.Calls.{pieces_of}
 
 -- The pieces of a text by its cut.
@@ -16,6 +16,6 @@ one_more true x xs o e = refl
 one_more false x xs None e = ap (onto_first x) e
 one_more false x xs (Some p) e = ap (onto_first x) e
 
-pub pieces_cut : (bs : List ℕ) → pieces_of bs ≡ by_cut bs (cut 32 bs)
+pub pieces_cut : (bs : List ℕ) → pieces_of bs ≡ by_cut bs (split_at_byte 32 bs)
 pieces_cut [] = refl
-pieces_cut (x ∷ xs) = one_more (x == 32) x xs (cut 32 xs) (pieces_cut xs)
+pieces_cut (x ∷ xs) = one_more (x == 32) x xs (split_at_byte 32 xs) (pieces_cut xs)

@@ -9,7 +9,7 @@ use Rattle.sources.specs.declared.number.Radix.TheVariants.{Decimal, Hexadecimal
 use Rattle.sources.specs.declared.reason.Reason.TheVariants.{LongLine, Short}
 use Rattle.sources.specs.Faults.{fault, as_fault, and_then, at_line}
 use Rattle.sources.specs.Number.{unsigned, signed}
-use Rattle.sources.specs.Pieces.{case_of, past}
+use Rattle.sources.specs.Pieces.{case_of, strip_prefix}
 use Rattle.sources.specs.White.{trim}
 use Rattle.support.specs.declared.syscall.Syscall.{Syscall}
 use Rattle.support.specs.declared.syscall.Syscall.TheVariants.{Running, Blocked}
@@ -30,7 +30,7 @@ first_of (p ∷ ps) = (Some p, ps)
 
 -- One prefix of base 16 is dropped.
 abbrev pub unprefixed : List ℕ → List ℕ
-unprefixed p = unwrap_or (past (codes "0x") p) (unwrap_or (past (codes "0X") p) p)
+unprefixed p = unwrap_or (strip_prefix (codes "0x") p) (unwrap_or (strip_prefix (codes "0X") p) p)
 
 -- A register: 64 bits in base 16.
 abbrev pub register_of : List ℕ → Result ℕ Fault

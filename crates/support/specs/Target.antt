@@ -8,7 +8,7 @@ use Rattle.sources.specs.declared.number.Radix.TheVariants.{Decimal}
 use Rattle.sources.specs.declared.reason.Reason.TheVariants.{Bracket}
 use Rattle.sources.specs.Faults.{fault, as_fault, and_then, at_line}
 use Rattle.sources.specs.Number.{unsigned}
-use Rattle.sources.specs.Pieces.{case_of, cut_at, past, shorn}
+use Rattle.sources.specs.Pieces.{case_of, split_once, strip_prefix, strip_suffix}
 use Rattle.support.specs.declared.target.FDTarget.{FDTarget}
 use Rattle.support.specs.declared.target.FDTarget.TheVariants as code
 use Rattle.sources.specs.AsText.{as_text}
@@ -41,7 +41,7 @@ seen_in r = result_map_both told (λ f. f) r
 
 -- What stands between square brackets, if they are the first byte and the last.
 abbrev pub bracketed : List ℕ → Option (List ℕ)
-bracketed bs = case_of (past (codes "[") bs) None (shorn (codes "]"))
+bracketed bs = case_of (strip_prefix (codes "[") bs) None (strip_suffix (codes "]"))
 
 -- The inode that brackets hold: brackets that are missing or empty are refused otherwise than a bad number.
 abbrev pub held_inode : List ℕ → Result ℕ Fault
@@ -67,13 +67,13 @@ typed_of kind rest =
 
 -- A name that begins with no slash: its type ends at the first colon.
 abbrev pub bare_of : List ℕ → Result Target Fault
-bare_of bs = case_of (cut_at 58 bs) (Ok (path bs)) (λ p. typed_of p.0 p.1)
+bare_of bs = case_of (split_once 58 bs) (Ok (path bs)) (λ p. typed_of p.0 p.1)
 
 -- A target.
 abbrev pub target_of : List ℕ → Result Target Fault
 target_of bs =
-    case_of (past (codes "/memfd:") bs)
-    (cond (is_some (past (codes "/") bs)) (Ok (path bs)) (bare_of bs))
+    case_of (strip_prefix (codes "/memfd:") bs)
+    (cond (is_some (strip_prefix (codes "/") bs)) (Ok (path bs)) (bare_of bs))
     (λ name. Ok (memfd name))
 
 -- The target of bytes that may be no text.

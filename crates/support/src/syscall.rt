@@ -5,7 +5,7 @@ ghost use Rattle.support.specs.Calls.{blocked_of, call_in, call_of, first_of, le
 
 use sources::fault::{Fault, Refusal, at_line};
 use sources::number::{FromStrRadix, Radix};
-use sources::pieces::{cut, past, trimmed};
+use sources::pieces::{split_once, strip_prefix, trimmed};
 use sources::reason::Reason;
 use sources::text::text;
 
@@ -43,7 +43,7 @@ impl<'a> Pieces<'a> {
         ensures { (option_map bytes_of result, left self.new) ≡ first_of (left self.old) }
     {
         let text = self.rest?;
-        match cut(text, ' ') {
+        match split_once(text, ' ') {
             None => {
                 self.rest = None;
                 Some(text)
@@ -60,7 +60,7 @@ impl<'a> Pieces<'a> {
 fn unprefixed(piece: &str) -> &str
     ensures { result.now ≡ unprefixed_of piece.now }
 {
-    past(piece, "0x").or(past(piece, "0X")).unwrap_or(piece)
+    strip_prefix(piece, "0x").or(strip_prefix(piece, "0X")).unwrap_or(piece)
 }
 
 // The next piece, as the number of a call.

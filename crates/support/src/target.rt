@@ -6,7 +6,7 @@ ghost use Rattle.support.specs.Written.{IsWritten, is_plain};
 
 use sources::fault::{Fault, Refusal, at_line};
 use sources::number::{FromStrRadix, Radix};
-use sources::pieces::{cut, past, shorn};
+use sources::pieces::{split_once, strip_prefix, strip_suffix};
 use sources::reason::Reason;
 use sources::text::text;
 
@@ -27,7 +27,7 @@ pub enum FDTarget<'a> {
 fn bracketed(rest: &str) -> Option<&str>
     ensures { option_map bytes_of result ≡ bracketed_of rest.now }
 {
-    shorn(past(rest, "[")?, "]")
+    strip_suffix(strip_prefix(rest, "[")?, "]")
 }
 
 // The number of an inode, in square brackets.
@@ -65,13 +65,13 @@ impl<'a> FDTarget<'a> {
         ensures written { IfOk result (λ t. IsWritten (told t) text.now) }
         ensures read { (t : Target) → is_plain t ≡ true → IsWritten t text.now → seen result ≡ Ok t }
     {
-        if let Some(name) = past(text, "/memfd:") {
+        if let Some(name) = strip_prefix(text, "/memfd:") {
             return Ok(FDTarget::MemFD(name));
         }
-        if past(text, "/").is_some() {
+        if strip_prefix(text, "/").is_some() {
             return Ok(FDTarget::Path(text));
         }
-        match cut(text, ':') {
+        match split_once(text, ':') {
             None => Ok(FDTarget::Path(text)),
             Some((kind, rest)) => read_typed(kind, rest),
         }

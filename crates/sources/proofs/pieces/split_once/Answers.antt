@@ -4,8 +4,8 @@ use Rattle.std.proofs.lemmas.Str.{IsCharBoundary-after_ascii}
 use Rattle.memchr.specs.Find.{IsFirstByte, is_byte}
 use Rattle.sources.specs.Pieces.{bytes_of_2}
 use Rattle.sources.proofs.Cuts.{cut_found, cut_ascii, found_byte}
-use Rattle.sources.proofs.pieces.cut.Goals.{After-find}
-use Rattle.sources.proofs.pieces.cut.Goals as goal
+use Rattle.sources.proofs.pieces.split_once.Goals.{After-find}
+use Rattle.sources.proofs.pieces.split_once.Goals as goal
 
 searched : (c : After-find) → IsFirstByte (is_byte c.args.at) c.args.text.now c.find.result
 searched c = subst (λ (bs : List ℕ). IsFirstByte (is_byte c.args.at) bs c.find.result) c.as_bytes.ensures.value c.find.ensures
