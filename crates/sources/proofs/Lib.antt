@@ -13,6 +13,7 @@ pub mod Made
 pub mod Parts
 pub mod Reading
 pub mod Cuts
+pub mod Splits
 pub mod Ends
 pub mod Worded
 pub mod Trims

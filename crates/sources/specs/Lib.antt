@@ -5,8 +5,10 @@ pub mod Records
 pub mod Inputs
 pub mod Reasons
 pub mod Faults
+pub mod Shown
 pub mod Number
 pub mod Pieces
+pub mod Split
 pub mod White
 pub mod Words
 pub mod Utf8

@@ -12,10 +12,11 @@ use crate::source::{Piece, Source};
 use std::simd::prelude::*;
 use std::str::{from_utf8, from_utf8_unchecked};
 
-// The longest piece of a line, and the longest text.
-const MAX_LINE: usize = 4096;
+/// The longest piece of a line, in bytes.
+pub const MAX_LINE: usize = 4096;
 
-const MAX_TEXT: usize = 268435456;
+/// The longest text, in bytes.
+pub const MAX_TEXT: usize = 268435456;
 
 // Whether `n` bytes more take a text of `size` bytes past the longest.
 fn past_cap(size: usize, n: usize) -> bool

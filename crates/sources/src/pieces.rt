@@ -1,6 +1,8 @@
 ghost use Rattle.std.specs.Prelude.{◌≡◌};
+ghost use Rattle.std.specs.Iterator.{YieldsFirstRef, item_count};
 ghost use Rattle.std.specs.Option.{option_map};
-ghost use Rattle.sources.specs.Pieces.{bytes_of, bytes_of_2, split_once as split_once_of, strip_prefix as strip_prefix_of, strip_suffix as strip_suffix_of, up_to as up_to_of};
+ghost use Rattle.sources.specs.Pieces.{bracketed as bracketed_of, bytes_of, bytes_of_2, split, split_once as split_once_of, strip_prefix as strip_prefix_of, strip_suffix as strip_suffix_of, up_to as up_to_of};
+ghost use Rattle.sources.specs.Split.{pieces_left};
 ghost use Rattle.sources.specs.White.{trim as trim_of, trim_start as trim_start_of};
 
 use crate::find::find;
@@ -60,4 +62,55 @@ pub fn strip_suffix<'a>(text: &'a str, end: &str) -> Option<&'a str>
     ensures { option_map bytes_of result ≡ strip_suffix_of end.now text.now }
 {
     text.strip_suffix(end)
+}
+
+// What stands between square brackets, where the text begins with the one and ends with the other.
+pub fn bracketed(text: &str) -> Option<&str>
+    ensures { option_map bytes_of result ≡ bracketed_of text.now }
+{
+    strip_suffix(strip_prefix(text, "[")?, "]")
+}
+
+/// The pieces of a text between one ASCII character and the next that is the same: one more than there are such
+/// characters, so an empty text is one empty piece. A character that is not ASCII splits nothing.
+#[derive(Drop)]
+pub struct Split<'a> {
+    // what follows the last character found; nothing behind the last piece
+    rest: Option<&'a str>,
+    at: char,
+}
+
+impl<'a> Split<'a> {
+    /// All pieces of the text.
+    pub fn new(text: &'a str, at: char) -> Split<'a>
+        ensures { pieces_left result ≡ split at text.now }
+    {
+        Split {
+            rest: Some(text),
+            at,
+        }
+    }
+}
+
+impl<'a> Iterator for Split<'a> {
+    type Item = &'a str;
+
+    ghost next_gives = { YieldsFirstRef pieces_left };
+
+    ghost remaining = { item_count pieces_left };
+
+    // The piece before the next such character, or the last piece.
+    fn next(&mut self) -> Option<&'a str> {
+        let rest = self.rest?;
+        match split_once(rest, self.at) {
+            Some((piece, behind)) => {
+                self.rest = Some(behind);
+                Some(piece)
+            }
+            None => {
+                self.rest = None;
+                Some(rest)
+            }
+        }
+    }
 }
