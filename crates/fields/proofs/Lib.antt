@@ -1,4 +1,3 @@
 mod Fills
-mod Cuts
 pub mod Courses
 pub mod Into

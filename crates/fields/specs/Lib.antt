@@ -1,8 +1,8 @@
 pub mod Counted
 pub mod Lists
+pub mod Shown
 pub mod Items
 pub mod Slots
 pub mod Values
-pub mod Commas
 pub mod Slotted
 pub mod LastLines

@@ -1,6 +1,5 @@
 -- How the value of a field is read. Lists and masks of processors and memory nodes are after cpuset(7).
-use Rattle.std.specs.Prelude.{ℕ, Bool, List, ℤ, pos, Some, None, Ok, Err, codes, Option, Result, ◌==◌}
-use Rattle.std.specs.List.{slice_split}
+use Rattle.std.specs.Prelude.{ℕ, Bool, List, ℤ, pos, Some, None, Ok, Err, codes, Option, Result}
 use Rattle.std.specs.Option.{unwrap_or}
 use Rattle.std.specs.Str.{bytes_eq}
 use Rattle.sources.specs.declared.fault.Fault.{Fault}
@@ -9,7 +8,7 @@ use Rattle.sources.specs.declared.number.Radix.TheVariants.{Decimal, Hexadecimal
 use Rattle.sources.specs.declared.reason.Reason.TheVariants.{Short}
 use Rattle.sources.specs.Faults.{fault, as_fault}
 use Rattle.sources.specs.Number.{signed, two_of, unsigned}
-use Rattle.sources.specs.Pieces.{strip_suffix}
+use Rattle.sources.specs.Pieces.{split, strip_suffix}
 use Rattle.sources.specs.White.{nth, white_words}
 use Rattle.fields.specs.declared.counted.Counted.{Counted}
 use Rattle.fields.specs.declared.list.ListFault.{ListFault}
@@ -51,9 +50,9 @@ groups_of bs = as_list (filled (unsigned 32 Decimal) 0 128 (white_words bs))
 abbrev pub spaces_of : List ℕ → Result (Counted ℤ 32) Fault
 spaces_of bs = as_list (filled (signed 31 Decimal) (pos 0) 32 (white_words bs))
 
--- The parts between commas: one more than there are commas, so an empty text is one empty part.
+-- The pieces between commas.
 abbrev pub comma_parts : List ℕ → List (List ℕ)
-comma_parts bs = slice_split (λ b. b == 44) bs
+comma_parts bs = split 44 bs
 
 -- At most 256 words of a mask, between commas.
 abbrev pub mask_of : List ℕ → Result (Counted ℕ 256) Fault

@@ -1,7 +1,6 @@
 // How the text of a field is read: single figures, lists of items, and what a line leaves for the closing to judge.
 #![tactic(auto)]
 
-mod commas;
 pub mod counted;
 mod item;
 mod list;

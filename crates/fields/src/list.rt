@@ -4,12 +4,16 @@ ghost use Rattle.std.specs.Iterator.{IsFinite, AlwaysYields};
 ghost use Rattle.sources.specs.Pieces.{bytes_of};
 ghost use Rattle.fields.specs.Counted.{counted};
 ghost use Rattle.fields.specs.Lists.{as_list, bad_for, filled, list_fault_for, IsFilled};
+ghost use Rattle.fields.specs.Shown.{list_fault_text};
 
 use crate::counted::Counted;
 use crate::item::Item;
 use crate::slot::Slot;
 use sources::fault::{Fault, NumberFault};
 use sources::reason::Reason;
+use std::error::Error;
+use std::fmt;
+use std::fmt::{Display, Formatter};
 
 // What is wrong with a list: an item that can't be read, or one more than there is room for.
 #[derive(Clone, Copy, PartialEq, Eq, Debug)]
@@ -17,6 +21,19 @@ pub enum ListFault {
     Bad,
     Full,
 }
+
+impl Display for ListFault {
+    ghost output = { λ f. Some (list_fault_text f) };
+
+    fn fmt<W: fmt::Write>(&self, f: &mut Formatter<W>) -> fmt::Result {
+        match self {
+            ListFault::Bad => f.write_str("an item can't be read"),
+            ListFault::Full => f.write_str("no room for one more item"),
+        }
+    }
+}
+
+impl Error for ListFault {}
 
 impl From<NumberFault> for ListFault {
     ghost from_gives = { λ f r. r ≡ bad_for f };

@@ -6,14 +6,13 @@ ghost use Rattle.sources.specs.White.{white_words};
 ghost use Rattle.fields.specs.Lists.{as_list, filled};
 ghost use Rattle.fields.specs.Values.{comma_parts, kilobytes_of, needed_word, four_of, pair_of, groups_of, spaces_of, mask_of, ranges_of, flag_of};
 
-use crate::commas::Commas;
 use crate::counted::Counted;
 use crate::item::{Group, Item, Process, Range, Word};
 use crate::list::{ListFault, fill_list, put_list};
 use crate::slot::Slot;
 use sources::fault::Fault;
 use sources::number::{FromStrRadix, Radix, split_into_num};
-use sources::pieces::strip_suffix;
+use sources::pieces::{Split, strip_suffix};
 use sources::reason::Reason;
 
 // A number.
@@ -81,7 +80,7 @@ fn put_words<I: Item, const N: usize>(slot: &mut Slot<Counted<I::Value, N>>, tex
 fn put_commas<I: Item, const N: usize>(slot: &mut Slot<Counted<I::Value, N>>, text: &str)
     ensures { (blank : _) × I.Value.is_default blank × (slot.new ≡ Some (as_list (filled I.Item.reading blank N (comma_parts text.now)))) }
 {
-    put_list::<I, _, N>(slot, Commas::new(text));
+    put_list::<I, _, N>(slot, Split::new(text, ','));
 }
 
 // Puts the groups of a process into a slot.
@@ -111,7 +110,7 @@ pub fn put_ranges(slot: &mut Slot<Option<Counted<(u32, u32), 128>>>, text: &str)
 {
     *slot = Some(Ok(Some(Counted::default())));
     if let Some(Ok(Some(list))) = slot {
-        match fill_list::<Range, _, 128>(list, Commas::new(text)) {
+        match fill_list::<Range, _, 128>(list, Split::new(text, ',')) {
             Ok(()) => {}
             Err(ListFault::Bad) => *slot = Some(Ok(None)),
             Err(ListFault::Full) => *slot = Some(Err(Fault::new(Reason::Full))),

@@ -1,14 +1,15 @@
-use Rattle.std.proofs.Common.{◌≡◌, ℕ, ◌+◌, ◌-◌, Bool, true, false, cond, eqb, List, [], ◌∷◌, ◌++◌, reverse, length, take, drop, Some, None, Option, sym, refl, ap, ◌∙◌, Bor, eq-eqb, eqb-true, MatchOption}
+use Rattle.std.proofs.Common.{◌≡◌, ℕ, ◌+◌, ◌-◌, Bool, true, false, cond, eqb, List, [], ◌∷◌, ◌++◌, reverse, length, take, drop, Some, None, Option, sym, refl, ap, ◌∙◌, Bor, eq-eqb, eqb-true, MatchOption, codes}
 use mathlib.Core.List.{reverse-append, reverse-reverse}
 use Rattle.std.specs.Option.{option_map}
 use Rattle.std.specs.Str.Pattern.{FindsTextPrefix, FindsTextSuffix}
-use Rattle.sources.specs.Pieces.{strip_prefix, strip_suffix, bytes_of}
+use Rattle.sources.specs.Pieces.{bracketed, bytes_of, case_of, strip_prefix, strip_suffix}
 
 pub strip_prefix-some : (p rest : List ℕ) → strip_prefix p (p ++ rest) ≡ Some rest
 strip_prefix-some [] rest = refl
 strip_prefix-some (c ∷ cs) rest = rw (eq-eqb c c refl) (strip_prefix-some cs rest)
 
-strip_prefix-sound : (p bs r : List ℕ) → strip_prefix p bs ≡ Some r → bs ≡ p ++ r
+-- The text is the prefix and what follows it.
+pub strip_prefix-sound : (p bs r : List ℕ) → strip_prefix p bs ≡ Some r → bs ≡ p ++ r
 strip_prefix-sound [] bs r e = cc
 strip_prefix-sound (c ∷ cs) [] r e = cc
 strip_prefix-sound (c ∷ cs) (b ∷ bs) r e = at (eqb b c) refl (strip_prefix-sound cs bs r) e
@@ -29,6 +30,25 @@ strip_suffix-some p front = rw (reverse-append front p, strip_prefix-some (rever
 
 pub strip_suffix-none : (p bs : List ℕ) → ((f : List ℕ) → bs ≡ f ++ p → ⊥) → strip_suffix p bs ≡ None
 strip_suffix-none p bs n = ap (option_map reverse) (strip_prefix-none (reverse p) (reverse bs) (λ r e. n (reverse r) (sym (reverse-reverse bs) ∙ ap reverse e ∙ reverse-append (reverse p) r ∙ rw (reverse-reverse p))))
+
+-- The text is what stands before the suffix, and the suffix.
+pub strip_suffix-sound : (p bs m : List ℕ) → strip_suffix p bs ≡ Some m → bs ≡ m ++ p
+strip_suffix-sound p bs m e = at (strip_prefix (reverse p) (reverse bs)) refl e
+  where
+    at : (o : Option (List ℕ)) → strip_prefix (reverse p) (reverse bs) ≡ o → option_map reverse o ≡ Some m → bs ≡ m ++ p
+    at None f e = cc
+    at (Some r) f e =
+        let h : reverse bs ≡ reverse p ++ r = strip_prefix-sound (reverse p) (reverse bs) r f in
+        let k : reverse r ≡ m = cc in
+        sym (reverse-reverse bs) ∙ ap reverse h ∙ reverse-append (reverse p) r ∙ rw (reverse-reverse p, k) refl
+
+-- What stands between brackets stands between 91 and 93.
+pub bracketed-sound : (bs m : List ℕ) → bracketed bs ≡ Some m → bs ≡ 91 ∷ (m ++ (93 ∷ []))
+bracketed-sound bs m e = at (strip_prefix (codes "[") bs) refl e
+  where
+    at : (o : Option (List ℕ)) → strip_prefix (codes "[") bs ≡ o → case_of o None (strip_suffix (codes "]")) ≡ Some m → bs ≡ 91 ∷ (m ++ (93 ∷ []))
+    at None q e = cc
+    at (Some r) q e = strip_prefix-sound (codes "[") bs r q ∙ ap (λ (l : List ℕ). 91 ∷ l) (strip_suffix-sound (codes "]") r m e)
 
 pub prefix-is : (p bs : List ℕ) (r : Option (Bor (List ℕ))) → MatchOption r (FindsTextPrefix p bs None) (λ x. (n : ℕ) × FindsTextPrefix p bs (Some n) × (x.now ≡ drop n bs) × (length x.now + n ≡ length bs)) → option_map bytes_of r ≡ strip_prefix p bs
 prefix-is p bs None h = sym (strip_prefix-none p bs h)

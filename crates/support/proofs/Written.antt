@@ -1,7 +1,5 @@
 -- An accepted text is its target written out.
-use Rattle.std.proofs.Common.{◌≡◌, ℕ, Bool, true, false, cond, eqb, List, [], ◌∷◌, ◌++◌, reverse, Some, None, Ok, Err, Option, Result, refl, sym, ap, ◌∙◌, eqb-true, codes}
-use mathlib.Core.List.{reverse-append, reverse-reverse}
-use Rattle.std.specs.Option.{option_map}
+use Rattle.std.proofs.Common.{◌≡◌, ℕ, Bool, true, false, cond, List, [], ◌∷◌, ◌++◌, Some, None, Ok, Err, Option, Result, refl, sym, ap, ◌∙◌, codes}
 use Rattle.std.specs.Str.{bytes_eq}
 use Rattle.std.specs.Prelude.{is_some, IfOk}
 use Rattle.support.specs.declared.target.FDTarget.{FDTarget}
@@ -11,49 +9,12 @@ use Rattle.sources.specs.declared.number.Radix.TheVariants.{Decimal}
 use Rattle.sources.specs.declared.fault.NumberFault.{NumberFault}
 use Rattle.sources.specs.Faults.{and_then, as_fault, fault}
 use Rattle.sources.specs.Number.{unsigned}
-use Rattle.sources.proofs.Ends.{strip_suffix-some}
-use Rattle.sources.specs.Pieces.{case_of, split_at_byte, strip_prefix, strip_suffix}
+use Rattle.sources.proofs.Cuts.{split_at_byte-sound}
+use Rattle.sources.proofs.Ends.{bracketed-sound, strip_prefix-sound, strip_suffix-some}
+use Rattle.sources.specs.Pieces.{bracketed, case_of, split_at_byte, strip_prefix}
 use Rattle.sources.specs.declared.reason.Reason.TheVariants.{Bracket}
 use Rattle.support.specs.Target.{Target, path, socket, net, pipe, anon_inode, memfd, other, unknown, seen, told, held_inode, inode_of, other_of, typed_of, bare_of, target_of}
 use Rattle.support.specs.Written.{HasInode, IsWritten, is_plain}
-
--- The parts that a text is cut into are the text.
-past_sound : (p bs r : List ℕ) → strip_prefix p bs ≡ Some r → bs ≡ p ++ r
-past_sound [] bs r e = cc
-past_sound (c ∷ cs) [] r e = cc
-past_sound (c ∷ cs) (b ∷ bs) r e = at (eqb b c) refl (past_sound cs bs r) e
-  where
-    at : (q : Bool) → eqb b c ≡ q → (strip_prefix cs bs ≡ Some r → bs ≡ cs ++ r) → cond q (strip_prefix cs bs) None ≡ Some r → b ∷ bs ≡ (c ∷ cs) ++ r
-    at true t f e = let h = f e in let k = eqb-true b c t in cc
-    at false t f e = cc
-
-shorn_sound : (p bs m : List ℕ) → strip_suffix p bs ≡ Some m → bs ≡ m ++ p
-shorn_sound p bs m e = at (strip_prefix (reverse p) (reverse bs)) refl e
-  where
-    at : (o : Option (List ℕ)) → strip_prefix (reverse p) (reverse bs) ≡ o → option_map reverse o ≡ Some m → bs ≡ m ++ p
-    at None f e = cc
-    at (Some r) f e =
-        let h : reverse bs ≡ reverse p ++ r = past_sound (reverse p) (reverse bs) r f in
-        let k : reverse r ≡ m = cc in
-        sym (reverse-reverse bs) ∙ ap reverse h ∙ reverse-append (reverse p) r ∙ rw (reverse-reverse p, k) refl
-
-cut_sound : (c : ℕ) (bs front rest : List ℕ) → split_at_byte c bs ≡ Some (front, rest) → bs ≡ front ++ (c ∷ rest)
-cut_sound c [] front rest e = cc
-cut_sound c (x ∷ xs) front rest e = at (eqb x c) refl (split_at_byte c xs) (λ f r. cut_sound c xs f r) e
-  where
-    at : (q : Bool) → eqb x c ≡ q → (o : Option (List ℕ × List ℕ)) → ((f r : List ℕ) → o ≡ Some (f, r) → xs ≡ f ++ (c ∷ r)) → cond {A = Option (List ℕ × List ℕ)} q (Some ([], xs)) (option_map (λ p. (x ∷ p.0, p.1)) o) ≡ Some (front, rest) → x ∷ xs ≡ front ++ (c ∷ rest)
-    at true t o h e =
-        let k = eqb-true x c t in
-        let i : ◌≡◌ {A = List ℕ × List ℕ} ([], xs) (front, rest) = cc in
-        let f : [] ≡ front = ap (λ p. p.0) i in
-        let r : xs ≡ rest = ap (λ p. p.1) i in
-        rw (← f, ← r, k) refl
-    at false t None h e = cc
-    at false t (Some p) h e =
-        let i : ◌≡◌ {A = List ℕ × List ℕ} (x ∷ p.0, p.1) (front, rest) = cc in
-        let f : x ∷ p.0 ≡ front = ap (λ p. p.0) i in
-        let r : p.1 ≡ rest = ap (λ p. p.1) i in
-        rw (← f, ← r) (ap (λ ys. x ∷ ys) (h p.0 p.1 refl))
 
 -- An inode stands in brackets, with digits that are its number.
 pub record Held (n : ℕ) (rest : List ℕ) : Type 0 where
@@ -73,15 +34,11 @@ held_sound digits n e = at (bytes_eq digits []) e
     at false e = figure_sound (unsigned 64 Decimal digits) n e
 
 inode_sound : (rest : List ℕ) (n : ℕ) → inode_of rest ≡ Ok n → Held n rest
-inode_sound rest n e = at (strip_prefix (codes "[") rest) refl e
+inode_sound rest n e = at (bracketed rest) refl e
   where
-    inner : (r : List ℕ) → rest ≡ codes "[" ++ r → (o : Option (List ℕ)) → strip_suffix (codes "]") r ≡ o → case_of o (Err (fault Bracket)) held_inode ≡ Ok n → Held n rest
-    inner r h None f e = cc
-    inner r h (Some digits) f e = record { digits = digits; written = h ∙ ap (λ xs. codes "[" ++ xs) (shorn_sound (codes "]") r digits f); read = held_sound digits n e }
-
-    at : (o : Option (List ℕ)) → strip_prefix (codes "[") rest ≡ o → case_of (case_of o None (strip_suffix (codes "]"))) (Err (fault Bracket)) held_inode ≡ Ok n → Held n rest
+    at : (o : Option (List ℕ)) → bracketed rest ≡ o → case_of o (Err (fault Bracket)) held_inode ≡ Ok n → Held n rest
     at None f e = cc
-    at (Some r) f e = inner r (past_sound (codes "[") rest r f) (strip_suffix (codes "]") r) refl e
+    at (Some digits) f e = record { digits = digits; written = bracketed-sound rest digits f; read = held_sound digits n e }
 
 inode_written : (kind rest : List ℕ) (n : ℕ) → Held n rest → HasInode kind n (kind ++ (58 ∷ rest))
 inode_written kind rest n h = record { digits = h.digits; written = ap (λ xs. kind ++ (58 ∷ xs)) h.written; read = h.read }
@@ -125,7 +82,7 @@ bare_written bs t e = at (split_at_byte 58 bs) refl e
   where
     at : (o : Option (List ℕ × List ℕ)) → split_at_byte 58 bs ≡ o → case_of o (Ok (path bs)) (λ p. typed_of p.0 p.1) ≡ Ok t → IsWritten t bs
     at None h e = let i : path bs ≡ t = cc in rw (← i) refl
-    at (Some p) h e = let k : bs ≡ p.0 ++ (58 ∷ p.1) = cut_sound 58 bs p.0 p.1 h in rw k (typed_written p.0 p.1 t e)
+    at (Some p) h e = let k : bs ≡ p.0 ++ (58 ∷ p.1) = split_at_byte-sound 58 bs p.0 p.1 h in rw k (typed_written p.0 p.1 t e)
 
 pub target_written : (bs : List ℕ) (t : Target) → target_of bs ≡ Ok t → IsWritten t bs
 target_written bs t e = at (strip_prefix (codes "/memfd:") bs) refl e
@@ -136,7 +93,7 @@ target_written bs t e = at (strip_prefix (codes "/memfd:") bs) refl e
 
     at : (o : Option (List ℕ)) → strip_prefix (codes "/memfd:") bs ≡ o → case_of o (cond (is_some (strip_prefix (codes "/") bs)) (Ok (path bs)) (bare_of bs)) (λ name. Ok (memfd name)) ≡ Ok t → IsWritten t bs
     at None h e = rooted (is_some (strip_prefix (codes "/") bs)) e
-    at (Some name) h e = let i : memfd name ≡ t = cc in rw (← i) (past_sound (codes "/memfd:") bs name h)
+    at (Some name) h e = let i : memfd name ≡ t = cc in rw (← i) (strip_prefix-sound (codes "/memfd:") bs name h)
 
 pub seen_written : (bs : List ℕ) (r : Result FDTarget Fault) → seen r ≡ target_of bs → IfOk r (λ t. IsWritten (told t) bs)
 seen_written bs (Ok t) e = target_written bs (told t) (sym e)

@@ -1,6 +1,5 @@
 -- The system call that a process is blocked in: its number, six arguments, the stack pointer and the program counter. After proc(5), /proc/pid/syscall, but for its form of three pieces, which is refused.
-use Rattle.std.specs.Prelude.{ℕ, zero, suc, cond, List, [], ◌∷◌, length, ℤ, None, Some, Ok, Err, codes, Option, Result, ◌==◌, slice_index, nat_lt}
-use Rattle.std.specs.List.{slice_split}
+use Rattle.std.specs.Prelude.{ℕ, zero, suc, cond, List, [], ◌∷◌, length, ℤ, Ok, Err, codes, Result, slice_index, nat_lt}
 use Rattle.std.specs.Option.{unwrap_or}
 use Rattle.std.specs.Str.{bytes_eq}
 use Rattle.sources.specs.declared.fault.Fault.{Fault}
@@ -9,24 +8,15 @@ use Rattle.sources.specs.declared.number.Radix.TheVariants.{Decimal, Hexadecimal
 use Rattle.sources.specs.declared.reason.Reason.TheVariants.{LongLine, Short}
 use Rattle.sources.specs.Faults.{fault, as_fault, and_then, at_line}
 use Rattle.sources.specs.Number.{unsigned, signed}
-use Rattle.sources.specs.Pieces.{case_of, strip_prefix}
+use Rattle.sources.specs.Pieces.{split, strip_prefix}
 use Rattle.sources.specs.White.{trim}
 use Rattle.support.specs.declared.syscall.Syscall.{Syscall}
 use Rattle.support.specs.declared.syscall.Syscall.TheVariants.{Running, Blocked}
-use Rattle.support.specs.declared.syscall.Pieces.{Pieces}
 use Rattle.sources.specs.AsText.{as_text}
 
 -- The pieces between single spaces; two spaces in a row have an empty one between them.
 abbrev pub pieces_of : List ℕ → List (List ℕ)
-pieces_of = slice_split (λ b. b == 32)
-
--- The pieces that are still to come.
-abbrev pub left : Pieces → List (List ℕ)
-left p = case_of p.rest [] (λ t. pieces_of t.now)
-
-abbrev pub first_of : List (List ℕ) → Option (List ℕ) × List (List ℕ)
-first_of [] = (None, [])
-first_of (p ∷ ps) = (Some p, ps)
+pieces_of bs = split 32 bs
 
 -- One prefix of base 16 is dropped.
 abbrev pub unprefixed : List ℕ → List ℕ

@@ -1,5 +1,5 @@
 -- What a descriptor stands for, by the bytes of its link's name. After proc(5), /proc/pid/fd/, where a link is a path, `type:[inode]` or `anon_inode:` with what kind of file it is.
-use Rattle.std.specs.Prelude.{ℕ, cond, List, [], is_some, None, Ok, Err, codes, Option, Result}
+use Rattle.std.specs.Prelude.{ℕ, cond, List, [], is_some, Ok, Err, codes, Result}
 use Rattle.std.specs.Result.{result_map_both}
 use Rattle.std.specs.Str.{bytes_eq}
 use Rattle.sources.specs.declared.fault.Fault.{Fault}
@@ -8,7 +8,7 @@ use Rattle.sources.specs.declared.number.Radix.TheVariants.{Decimal}
 use Rattle.sources.specs.declared.reason.Reason.TheVariants.{Bracket}
 use Rattle.sources.specs.Faults.{fault, as_fault, and_then, at_line}
 use Rattle.sources.specs.Number.{unsigned}
-use Rattle.sources.specs.Pieces.{case_of, split_once, strip_prefix, strip_suffix}
+use Rattle.sources.specs.Pieces.{bracketed, case_of, split_once, strip_prefix}
 use Rattle.support.specs.declared.target.FDTarget.{FDTarget}
 use Rattle.support.specs.declared.target.FDTarget.TheVariants as code
 use Rattle.sources.specs.AsText.{as_text}
@@ -38,10 +38,6 @@ seen r = result_map_both told (λ f. f) r
 
 abbrev pub seen_in : Result FDTarget Refusal → Result Target Refusal
 seen_in r = result_map_both told (λ f. f) r
-
--- What stands between square brackets, if they are the first byte and the last.
-abbrev pub bracketed : List ℕ → Option (List ℕ)
-bracketed bs = case_of (strip_prefix (codes "[") bs) None (strip_suffix (codes "]"))
 
 -- The inode that brackets hold: brackets that are missing or empty are refused otherwise than a bad number.
 abbrev pub held_inode : List ℕ → Result ℕ Fault

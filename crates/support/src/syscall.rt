@@ -1,11 +1,10 @@
 ghost use Rattle.std.specs.Prelude.{◌≡◌};
-ghost use Rattle.std.specs.Option.{option_map};
-ghost use Rattle.sources.specs.Pieces.{bytes_of};
-ghost use Rattle.support.specs.Calls.{blocked_of, call_in, call_of, first_of, left, call_number_of, pieces_of, read_first, register_of, registers_of, unprefixed as unprefixed_of};
+ghost use Rattle.sources.specs.Split.{pieces_left};
+ghost use Rattle.support.specs.Calls.{blocked_of, call_in, call_of, call_number_of, pieces_of, read_first, register_of, registers_of, unprefixed as unprefixed_of};
 
 use sources::fault::{Fault, Refusal, at_line};
 use sources::number::{FromStrRadix, Radix};
-use sources::pieces::{split_once, strip_prefix, trimmed};
+use sources::pieces::{Split, strip_prefix, trimmed};
 use sources::reason::Reason;
 use sources::text::text;
 
@@ -24,64 +23,34 @@ pub enum Syscall {
     },
 }
 
-// The pieces of a text between single spaces that are still to come.
-#[derive(Clone, Copy)]
-struct Pieces<'a> {
-    rest: Option<&'a str>,
-}
-
-impl<'a> Pieces<'a> {
-    fn new(text: &'a str) -> Pieces<'a>
-        ensures { left result ≡ pieces_of text.now }
-    {
-        Pieces { rest: Some(text) }
-    }
-
-    // The next piece, if there is one.
-    #[tactic(auto, using(crate::proofs::Splits::pieces_cut))]
-    fn next(&mut self) -> Option<&'a str>
-        ensures { (option_map bytes_of result, left self.new) ≡ first_of (left self.old) }
-    {
-        let text = self.rest?;
-        match split_once(text, ' ') {
-            None => {
-                self.rest = None;
-                Some(text)
-            }
-            Some((piece, rest)) => {
-                self.rest = Some(rest);
-                Some(piece)
-            }
-        }
-    }
-}
-
 // A number without the prefix of base 16, if it has one.
 fn unprefixed(piece: &str) -> &str
     ensures { result.now ≡ unprefixed_of piece.now }
 {
-    strip_prefix(piece, "0x").or(strip_prefix(piece, "0X")).unwrap_or(piece)
+    strip_prefix(piece, "0x")
+        .or(strip_prefix(piece, "0X"))
+        .unwrap_or(piece)
 }
 
 // The next piece, as the number of a call.
-fn number(pieces: &mut Pieces) -> Result<i64, Fault>
-    ensures { (result, left pieces.new) ≡ read_first call_number_of (left pieces.old) }
+fn number(pieces: &mut Split) -> Result<i64, Fault>
+    ensures { (result, pieces_left pieces.new) ≡ read_first call_number_of (pieces_left pieces.old) }
 {
     let piece = pieces.next().ok_or(Fault::new(Reason::Short))?;
     Ok(FromStrRadix::from_str_radix(piece, Radix::Decimal)?)
 }
 
 // The next piece, as a register.
-fn register(pieces: &mut Pieces) -> Result<u64, Fault>
-    ensures { (result, left pieces.new) ≡ read_first register_of (left pieces.old) }
+fn register(pieces: &mut Split) -> Result<u64, Fault>
+    ensures { (result, pieces_left pieces.new) ≡ read_first register_of (pieces_left pieces.old) }
 {
     let piece = pieces.next().ok_or(Fault::new(Reason::Short))?;
     Ok(FromStrRadix::from_str_radix(unprefixed(piece), Radix::Hexadecimal)?)
 }
 
 // The next eight pieces, as registers.
-fn registers(pieces: &mut Pieces) -> Result<[u64; 8], Fault>
-    ensures { result ≡ registers_of 8 (left pieces.old) }
+fn registers(pieces: &mut Split) -> Result<[u64; 8], Fault>
+    ensures { result ≡ registers_of 8 (pieces_left pieces.old) }
 {
     let mut registers = [0; 8];
     for place in registers.iter_mut() {
@@ -95,7 +64,7 @@ fn registers(pieces: &mut Pieces) -> Result<[u64; 8], Fault>
 fn blocked(text: &str) -> Result<Syscall, Fault>
     ensures { result ≡ blocked_of (pieces_of text.now) }
 {
-    let mut pieces = Pieces::new(text);
+    let mut pieces = Split::new(text, ' ');
     let syscall_number = number(&mut pieces)?;
     let [a, b, c, d, e, f, stack_pointer, program_counter] = registers(&mut pieces)?;
     Ok(Syscall::Blocked {

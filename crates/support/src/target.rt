@@ -1,12 +1,10 @@
 ghost use Rattle.std.specs.Prelude.{◌≡◌, true, IfOk};
-ghost use Rattle.std.specs.Option.{option_map};
-ghost use Rattle.sources.specs.Pieces.{bytes_of};
-ghost use Rattle.support.specs.Target.{Target, bracketed as bracketed_of, inode_of, seen, seen_in, target_in, target_of, told, typed_of};
+ghost use Rattle.support.specs.Target.{Target, inode_of, seen, seen_in, target_in, target_of, told, typed_of};
 ghost use Rattle.support.specs.Written.{IsWritten, is_plain};
 
 use sources::fault::{Fault, Refusal, at_line};
 use sources::number::{FromStrRadix, Radix};
-use sources::pieces::{split_once, strip_prefix, strip_suffix};
+use sources::pieces::{bracketed, split_once, strip_prefix};
 use sources::reason::Reason;
 use sources::text::text;
 
@@ -21,13 +19,6 @@ pub enum FDTarget<'a> {
     MemFD(&'a str),
     Other(&'a str, u64),
     Unknown(&'a str, &'a str),
-}
-
-// What stands between square brackets.
-fn bracketed(rest: &str) -> Option<&str>
-    ensures { option_map bytes_of result ≡ bracketed_of rest.now }
-{
-    strip_suffix(strip_prefix(rest, "[")?, "]")
 }
 
 // The number of an inode, in square brackets.
