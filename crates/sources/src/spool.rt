@@ -34,7 +34,7 @@ impl<'a> Spool<'a> {
     }
 
     // Goes to the record that has the next byte, if there is one. The last record stays, for the ending that it tells.
-    fn settle(&mut self) -> Option<&'a Record>
+    fn advance(&mut self) -> Option<&'a Record>
         ensures same { to_come self.new.records.now self.new.used ≡ to_come self.old.records.now self.old.used }
         ensures keeps { ending_of self.new.records.now ≡ ending_of self.old.records.now }
         ensures more { MatchOption result (to_come self.new.records.now self.new.used ≡ []) (λ one. (self.new.used < min (slice_index one.now 0) 62) × ((others : List (List ℕ)) × (self.new.records.now ≡ one.now ∷ others))) }
@@ -58,7 +58,7 @@ impl<'a> Spool<'a> {
         ensures part { MatchOption result ((to_come self.old.records.now self.old.used ≡ []) × (buf.new ≡ buf.old) × (to_come self.new.records.now self.new.used ≡ [])) (λ k. Part buf.old (to_come self.old.records.now self.old.used) k buf.new (to_come self.new.records.now self.new.used)) }
         ensures keeps { ending_of self.new.records.now ≡ ending_of self.old.records.now }
     {
-        let one = self.settle()?;
+        let one = self.advance()?;
         let text = &one[2 + self.used..2 + size(one)];
         let k = reach(text, buf.len());
         buf[0..k].copy_from_slice(&text[0..k]);
