@@ -110,8 +110,8 @@ fn line_text(buf: &[u8], n: usize) -> Option<&str>
     from_utf8(line).ok()
 }
 
-// Hands the lines of a text to a kind, and answers how many. The kind is to be closed then: by `read` and `fill`, or by a caller who closes it into memory of his own.
-// A loop that counts, and no iterator: each line stands in the one buffer, which an Iterator could not lend.
+/// Hands the lines of a text to a kind, and answers how many. The kind is to be closed then: by `read` and `fill`, or by a caller who closes it into memory of his own.
+/// A loop that counts, and no iterator: each line stands in the one buffer, which an Iterator could not lend.
 pub fn lines<S: Source, K: Kind>(source: &mut S, kind: &mut K) -> Result<u32, Refusal>
     ensures course { (result, K.means kind.new, S.text source.new) ≡ course K.rules (K.means kind.old) (S.text source.old) }
     ensures frame { K.frame kind.old kind.new }
@@ -146,7 +146,7 @@ pub fn lines<S: Source, K: Kind>(source: &mut S, kind: &mut K) -> Result<u32, Re
     }
 }
 
-// Reads a text by a kind, which is closed and gone then.
+/// Reads a text by a kind, which is closed and gone then.
 pub fn read<S: Source, K: Close + Drop>(source: &mut S, kind: K) -> Result<K::Closed, Refusal>
     ensures reading { (result, S.text source.new) ≡ reading K.Kind.rules (K.Kind.means kind) (S.text source.old) }
     ensures folds { FoldsLines K.Kind.rules (K.Kind.means kind) (S.text source.old) result (S.text source.new) }
@@ -156,7 +156,7 @@ pub fn read<S: Source, K: Close + Drop>(source: &mut S, kind: K) -> Result<K::Cl
     at_line(kind.close(), taken)
 }
 
-// Reads a text by a kind that is closed where it stands.
+/// Reads a text by a kind that is closed where it stands.
 pub fn fill<S: Source, K: Finish>(source: &mut S, kind: &mut K) -> Result<K::Closed, Refusal>
     ensures reading { (result, S.text source.new) ≡ reading K.Kind.rules (K.Kind.means kind.old) (S.text source.old) }
     ensures folds { FoldsLines K.Kind.rules (K.Kind.means kind.old) (S.text source.old) result (S.text source.new) }
@@ -167,7 +167,7 @@ pub fn fill<S: Source, K: Finish>(source: &mut S, kind: &mut K) -> Result<K::Clo
     at_line(kind.finish(), taken)
 }
 
-// A newer edition of a text reads the same, line numbers aside, by every kind.
+/// A newer edition of a text reads the same, line numbers aside, by every kind.
 pub fn newer_reads_same<K: Kind>()
     ensures { NewerReadsSame K.rules K.begun K.foreign }
 {}

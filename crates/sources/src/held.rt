@@ -4,7 +4,7 @@ ghost use Rattle.sources.specs.Texts.{text};
 
 use crate::source::{Piece, Source, reach};
 
-// Bytes in the caller's memory, from a place on; they end clean.
+/// Bytes in the caller's memory, from a place on; they end clean.
 #[derive(Drop)]
 pub struct Held<'a> {
     bytes: &'a [u8],
@@ -12,6 +12,7 @@ pub struct Held<'a> {
 }
 
 impl<'a> Held<'a> {
+    /// A source of these bytes, from the first on.
     pub fn new(bytes: &'a [u8]) -> Held<'a>
         ensures { ⟦<Held<'a> as Source>⟧.text result ≡ text bytes.now false }
     {

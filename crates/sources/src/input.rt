@@ -10,14 +10,14 @@ use crate::held::Held;
 use crate::source::{Piece, Source};
 use crate::spool::Spool;
 
-// How bytes hold a text: they are the text, or a recording of it.
+/// How bytes hold a text: they are the text, or a recording of it.
 #[derive(Clone, Copy, Debug)]
 pub enum Form {
     Plain,
     Recording,
 }
 
-// Bytes of one of these forms as a source.
+/// Bytes of one of these forms as a source.
 #[derive(Drop)]
 pub enum Input<'a> {
     Plain(Held<'a>),
@@ -25,7 +25,7 @@ pub enum Input<'a> {
 }
 
 impl<'a> Input<'a> {
-    // Bytes that are to be a recording are refused where they are not well made.
+    /// Bytes that are to be a recording are refused where they are not well made.
     pub fn new(form: Form, bytes: &'a [u8]) -> Result<Input<'a>, Refusal>
         ensures { elim result [ Ok i ↦ (holds_text form bytes.now ≡ true) × (⟦<Input<'a> as Source>⟧.text i ≡ text_in form bytes.now) | Err e ↦ (holds_text form bytes.now ≡ false) × (e ≡ refused reason.Spool 0) ] }
     {

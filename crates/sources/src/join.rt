@@ -4,7 +4,7 @@ ghost use Rattle.sources.specs.Texts.{joined};
 
 use crate::source::{Piece, Source};
 
-// The first's bytes, and then the second's with its ending; a broken first ends it there, broken.
+/// The first's bytes, and then the second's with its ending; a broken first ends it there, broken.
 #[derive(Drop)]
 pub struct Join<A, B> {
     first: A,
@@ -12,6 +12,7 @@ pub struct Join<A, B> {
 }
 
 impl<A: Source, B: Source> Join<A, B> {
+    /// The two texts as one.
     pub fn new(first: A, second: B) -> Join<A, B>
         ensures first { result.first ≡ first }
         ensures second { result.second ≡ second }

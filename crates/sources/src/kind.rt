@@ -4,14 +4,14 @@ ghost use Rattle.sources.specs.Rules.{Rules, verdict as verdict_of, RefusalStays
 
 use crate::fault::Fault;
 
-// What a break means to a kind: refusal 1, or the end of the text.
+/// What a break means to a kind: refusal 1, or the end of the text.
 #[derive(Clone, Copy, PartialEq, Eq, Debug)]
 pub enum Break {
     Refuses,
     Ends,
 }
 
-// What reads the lines of a text: it takes them one by one, and is closed then. Its rules say what each line makes of its meaning.
+/// What reads the lines of a text: it takes them one by one, and is closed then. Its rules say what each line makes of its meaning.
 pub trait Kind: Sized {
     type Closed;
 
@@ -54,13 +54,13 @@ pub trait Kind: Sized {
     ghost still: { (a b c : Self) → frame a b → frame b c → frame a c };
 }
 
-// A kind that is closed by value: an open one is gone then.
+/// A kind that is closed by value: an open one is gone then.
 pub trait Close: Kind {
     fn close(self) -> Result<Self::Closed, Fault>
         ensures { result ≡ Self.Kind.rules.closed (Self.Kind.means self) };
 }
 
-// A kind that is closed where it stands: it writes to lent memory, which its owner goes on with.
+/// A kind that is closed where it stands: it writes to lent memory, which its owner goes on with.
 pub trait Finish: Kind {
     fn finish(&mut self) -> Result<Self::Closed, Fault>
         ensures closed { result ≡ Self.Kind.rules.closed (Self.Kind.means self.old) }

@@ -1,4 +1,4 @@
-// Where bytes come from, how they become lines, and the numbers and pieces of text that readers of lines share.
+//! Where bytes come from, how they become lines, and the numbers and pieces of text that readers of lines share.
 #![tactic(auto)]
 
 pub mod drive;

@@ -11,7 +11,7 @@ use crate::pieces::{split_once, up_to};
 use crate::reason::Reason;
 use std::num::ParseIntError;
 
-// The base in which a number is written.
+/// The base in which a number is written.
 #[derive(Clone, Copy, PartialEq, Eq, Debug)]
 pub enum Radix {
     Octal,
@@ -32,7 +32,7 @@ impl Radix {
     }
 }
 
-// An integer that a text writes in a base.
+/// An integer that a text writes in a base.
 pub trait FromStrRadix: Sized {
     // What a base and a text's bytes read as.
     ghost reading: { RadixOf → List ℕ → ResultOf Self FaultOf };
@@ -126,7 +126,7 @@ impl FromStrRadix for i64 {
     }
 }
 
-// Two numbers with `at` between them; what stands behind a second `at` is ignored.
+/// Two numbers with `at` between them; what stands behind a second `at` is ignored.
 pub fn split_into_num<T: FromStrRadix + Drop>(
     text: &str,
     at: char,

@@ -9,7 +9,7 @@ use crate::find::find;
 
 // Methods of the library, and `up_to` over them, each under a contract that is an executable definition.
 
-// What stands before the first `at`, an ASCII character, and what stands after it.
+/// What stands before the first `at`, an ASCII character, and what stands after it.
 pub fn split_once(text: &str, at: char) -> Option<(&str, &str)>
     ensures { option_map bytes_of_2 result ≡ split_once_of at text.now }
 {
@@ -21,7 +21,7 @@ pub fn split_once(text: &str, at: char) -> Option<(&str, &str)>
     Some((&text[..i], &text[i + 1..]))
 }
 
-// The part before the first `at`, or all.
+/// The part before the first `at`, or all.
 pub fn up_to(text: &str, at: char) -> &str
     ensures { result.now ≡ up_to_of at text.now }
 {
@@ -36,35 +36,35 @@ fn past_columns(text: &str) -> &str
     text.trim_ascii_start()
 }
 
-// The text without white space around it.
+/// The text without white space around it.
 pub fn trimmed(text: &str) -> &str
     ensures { result.now ≡ trim_of text.now }
 {
     past_columns(text).trim()
 }
 
-// The text without white space in front of it.
+/// The text without white space in front of it.
 pub fn trimmed_start(text: &str) -> &str
     ensures { result.now ≡ trim_start_of text.now }
 {
     past_columns(text).trim_start()
 }
 
-// What follows `front`, where the text begins with it.
+/// What follows `front`, where the text begins with it.
 pub fn strip_prefix<'a>(text: &'a str, front: &str) -> Option<&'a str>
     ensures { option_map bytes_of result ≡ strip_prefix_of front.now text.now }
 {
     text.strip_prefix(front)
 }
 
-// What stands before `end`, where the text ends with it.
+/// What stands before `end`, where the text ends with it.
 pub fn strip_suffix<'a>(text: &'a str, end: &str) -> Option<&'a str>
     ensures { option_map bytes_of result ≡ strip_suffix_of end.now text.now }
 {
     text.strip_suffix(end)
 }
 
-// What stands between square brackets, where the text begins with the one and ends with the other.
+/// What stands between square brackets, where the text begins with the one and ends with the other.
 pub fn bracketed(text: &str) -> Option<&str>
     ensures { option_map bytes_of result ≡ bracketed_of text.now }
 {

@@ -1,7 +1,7 @@
 ghost use Rattle.std.specs.Prelude.{◌≡◌};
 ghost use Rattle.sources.specs.Reasons.{number_of, word_of};
 
-// Why something was refused, with the number that docs/REFUSALS.md gives.
+/// Why something was refused, with the number that docs/REFUSALS.md gives.
 #[derive(Clone, Copy, PartialEq, Eq, Debug)]
 pub enum Reason {
     Broken = 1,
@@ -29,13 +29,14 @@ pub enum Reason {
 }
 
 impl Reason {
+    /// The number that docs/REFUSALS.md gives it.
     pub fn number(self) -> u8
         ensures { result ≡ number_of self }
     {
         self as u8
     }
 
-    // Answers the stored word; a Display would have to copy it.
+    /// The word that docs/REFUSALS.md gives it. It is stored; a Display would have to copy it.
     pub fn word(self) -> &'static str
         ensures { result.now ≡ word_of self }
     {

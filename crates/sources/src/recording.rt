@@ -1,7 +1,7 @@
 ghost use Rattle.std.specs.Prelude.{◌≡◌, MatchOption, true, false};
 ghost use Rattle.sources.specs.Records.{recorded, records_of, formed as formed_of, going as going_of, last as «last_of»};
 
-// One record of a recording. Its marks are read where they stand, as the bytes that the format has.
+/// One record of a recording. Its marks are read where they stand, as the bytes that the format has.
 pub type Record = [u8; 64];
 
 // Whether a record has at most 62 text bytes, and zeros behind them.
@@ -26,7 +26,7 @@ fn last(one: &Record) -> bool
     formed(one) && (one[1] == 1 || one[1] == 2)
 }
 
-// The records of a recording, where bytes are one.
+/// The records of a recording, where bytes are one.
 pub fn records_in(bytes: &[u8]) -> Option<&[Record]>
     ensures { MatchOption result (recorded bytes.now ≡ false) (λ records. (recorded bytes.now ≡ true) × (records.now ≡ records_of bytes.now)) }
 {

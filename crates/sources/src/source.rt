@@ -5,8 +5,8 @@ ghost use Rattle.sources.specs.Texts.{Text};
 
 use crate::find::find;
 
-// What one call of `piece` answers: bytes moved, or the ending, clean or broken.
-// No Result: an ending is no error, and all three are matched side by side.
+/// What one call of `piece` answers: bytes moved, or the ending, clean or broken.
+/// No Result: an ending is no error, and all three are matched side by side.
 #[derive(Clone, Copy, PartialEq, Eq, Debug)]
 pub enum Piece {
     Bytes(usize),
@@ -14,7 +14,7 @@ pub enum Piece {
     Broken,
 }
 
-// Bytes that come a piece at a time. It means the bytes still to come, and whether their ending is broken.
+/// Bytes that come a piece at a time. It means the bytes still to come, and whether their ending is broken.
 pub trait Source {
     ghost text: { Self → Text };
 
@@ -24,7 +24,7 @@ pub trait Source {
         ensures { Given buf.old (text self.old) result buf.new (text self.new) };
 }
 
-// How many bytes a piece of at most `room` moves.
+/// How many bytes a piece of at most `room` moves.
 pub fn reach(bytes: &[u8], room: usize) -> usize
     ensures { result ≡ moved room bytes.now }
 {

@@ -10,7 +10,7 @@ use crate::reason::Reason;
 use crate::recording::{Record, records_in};
 use crate::source::{Piece, Source, reach};
 
-// A recording: the records that are left, with `used` text bytes of the first of them given.
+/// A recording: the records that are left, with `used` text bytes of the first of them given.
 #[derive(Drop)]
 pub struct Spool<'a> {
     records: &'a [Record],
@@ -26,6 +26,7 @@ fn size(one: &Record) -> usize
 }
 
 impl<'a> Spool<'a> {
+    /// A source of the text that is recorded. Bytes that are no well-made recording, as docs/SOURCES.md has it, are refused 22.
     pub fn new(recording: &'a [u8]) -> Result<Spool<'a>, Refusal>
         ensures { elim result [ Ok s ↦ (recorded recording.now ≡ true) × (⟦<Spool<'a> as Source>⟧.text s ≡ text (text_of_records (records_of recording.now)) (ending_of (records_of recording.now))) | Err e ↦ (recorded recording.now ≡ false) × (e ≡ refused reason.Spool 0) ] }
     {

@@ -5,7 +5,7 @@ use crate::fault::Fault;
 use crate::reason::Reason;
 use std::str::from_utf8;
 
-// The text that bytes are.
+/// The text that bytes are.
 #[tactic(auto, using(crate::proofs::Steps::text_true, crate::proofs::Steps::text_false))]
 pub fn text(bytes: &[u8]) -> Result<&str, Fault>
     ensures { seen_text result ≡ as_text bytes.now }

@@ -62,7 +62,7 @@ fn past_gap(text: &str) -> &str
     rest
 }
 
-// The first word between ASCII white bytes, and what follows it. A reader of lines asks for few words of many, and `split_ascii_whitespace` stops at each white byte.
+/// The first word between ASCII white bytes, and what follows it. A reader of lines asks for few words of many, and `split_ascii_whitespace` stops at each white byte.
 pub fn next_word(text: &str) -> Option<(&str, &str)>
     ensures { MatchOption result (ascii_words text.now ≡ []) (λ p. ascii_words text.now ≡ p.0.now ∷ ascii_words p.1.now) }
 {
@@ -74,7 +74,7 @@ pub fn next_word(text: &str) -> Option<(&str, &str)>
     Some(rest.split_at(n))
 }
 
-// Whether a word follows.
+/// Whether a word follows.
 pub fn has_word(text: &str) -> bool
     ensures { result ≡ is_some (nth 0 (ascii_words text.now)) }
 {
