@@ -1,5 +1,5 @@
 -- Pieces of a text, as functions of its bytes.
-use Rattle.std.specs.Prelude.{ℕ, cond, if◌then◌else◌, List, [], ◌∷◌, reverse, Some, None, Option, ◌==◌, nat_lt, codes}
+use Rattle.std.specs.Prelude.{ℕ, if◌then◌else◌, List, [], ◌∷◌, reverse, Some, None, Option, ◌==◌, nat_lt, codes}
 use Rattle.std.specs.List.{slice_split}
 use Rattle.std.specs.Borrow.{Bor}
 use Rattle.std.specs.Option.{option_map}
@@ -7,11 +7,11 @@ use Rattle.std.specs.Option.{option_map}
 -- What stands before the first byte c and what stands after it, where there is one.
 abbrev pub split_at_byte : ℕ → List ℕ → Option (List ℕ × List ℕ)
 split_at_byte c [] = None
-split_at_byte c (x ∷ xs) = cond (x == c) (Some ([], xs)) (option_map (λ p. (x ∷ p.0, p.1)) (split_at_byte c xs))
+split_at_byte c (x ∷ xs) = if x == c then Some ([], xs) else option_map (λ p. (x ∷ p.0, p.1)) (split_at_byte c xs)
 
 -- The same for any character: one that is not ASCII cuts nothing.
 abbrev pub split_once : ℕ → List ℕ → Option (List ℕ × List ℕ)
-split_once c bs = cond (nat_lt c 128) (split_at_byte c bs) None
+split_once c bs = if nat_lt c 128 then split_at_byte c bs else None
 
 -- A value by cases on an option.
 abbrev pub case_of : {X Y : Type 0} → Option X → Y → (X → Y) → Y
@@ -34,7 +34,7 @@ bytes_of_2 p = (p.0.now, p.1.now)
 abbrev pub strip_prefix : List ℕ → List ℕ → Option (List ℕ)
 strip_prefix [] bs = Some bs
 strip_prefix (c ∷ cs) [] = None
-strip_prefix (c ∷ cs) (b ∷ bs) = cond (b == c) (strip_prefix cs bs) None
+strip_prefix (c ∷ cs) (b ∷ bs) = if b == c then strip_prefix cs bs else None
 
 -- What stands before the bytes p, where the text ends with them.
 abbrev pub strip_suffix : List ℕ → List ℕ → Option (List ℕ)
