@@ -8,7 +8,7 @@ pub strip_prefix-some : (p rest : List ℕ) → strip_prefix p (p ++ rest) ≡ S
 strip_prefix-some [] rest = refl
 strip_prefix-some (c ∷ cs) rest = rw (eq-eqb c c refl) (strip_prefix-some cs rest)
 
-strip_prefix-sound : (p bs r : List ℕ) → strip_prefix p bs ≡ Some r → bs ≡ p ++ r
+pub strip_prefix-sound : (p bs r : List ℕ) → strip_prefix p bs ≡ Some r → bs ≡ p ++ r
 strip_prefix-sound [] bs r e = cc
 strip_prefix-sound (c ∷ cs) [] r e = cc
 strip_prefix-sound (c ∷ cs) (b ∷ bs) r e = at (eqb b c) refl (strip_prefix-sound cs bs r) e
