@@ -47,7 +47,7 @@ impl Row {
     }
 
     // The row of a mapping line that stands behind `before` bytes of text: of no flags, and of no attributes.
-    #[tactic(auto, unfolding(crate::specs::Rows::row_of))]
+    #[tactic(auto, unfolding(crate::specs::Rows::Rows::row_of))]
     pub(crate) fn from_line(line: &str, before: usize) -> Result<Row, Fault>
         ensures { result ≡ row_of before line.now }
     {
