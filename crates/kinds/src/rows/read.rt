@@ -9,7 +9,7 @@ ghost use Rattle.kinds.specs.Rows.Tables.{Filled, filled, tables, valued, after_
 use crate::rows::entry::{Entry, spot};
 use crate::rows::line::{RowLine, Saying, row_line_of};
 use crate::rows::row::Row;
-use crate::rows::table::{Lent, Table, blank, last};
+use crate::rows::table::{Lent, Table, blank};
 use sources::drive::fill;
 use sources::fault::{Fault, Refusal};
 use sources::kind::{Break, Finish, Kind};
@@ -93,7 +93,7 @@ fn step<R: Lent<Row>, E: Lent<Entry>>(
             Ok(bytes)
         }
         RowLine::Attribute(saying) => {
-            let row = last(rows.in_use()).ok_or(Fault::new(Reason::Orphan))?;
+            let row = rows.last().ok_or(Fault::new(Reason::Orphan))?;
             take_saying(rows, entries, bytes, row, saying?)
         }
     }

@@ -24,13 +24,6 @@ impl<'a, T: Copy> Table<'a, T> {
     }
 }
 
-// The last of those in use.
-pub fn last<T: Copy>(used: &[T]) -> Option<T>
-    ensures { result ≡ last used.now }
-{
-    used.last().copied()
-}
-
 // A table that is lent, as a bound. A kind has a constant, which can't be stated in an impl for a type that names a lifetime; so the tables come into it as type arguments.
 pub trait Lent<T> {
     ghost table: { Self → Cells T };
@@ -43,6 +36,9 @@ pub trait Lent<T> {
 
     fn in_use(&self) -> &[T]
         ensures { result.now ≡ used (table self.now) };
+
+    fn last(&self) -> Option<T>
+        ensures { result ≡ last (used (table self.now)) };
 
     fn push(&mut self, item: T) -> Result<(), Fault>
         ensures pushes { result_map_both (λ _. table self.new) (λ f. f) result ≡ pushed item (table self.old) }
@@ -69,6 +65,11 @@ impl<'a, T: Copy> Lent<T> for Table<'a, T> {
     // Those in use.
     fn in_use(&self) -> &[T] {
         self.cells.get(..self.count).unwrap_or(self.cells)
+    }
+
+    // The last of them.
+    fn last(&self) -> Option<T> {
+        self.in_use().last().copied()
     }
 
     // Takes one more cell in use, where there is one.
@@ -105,6 +106,10 @@ impl<'k, T, X: Lent<T>> Lent<T> for &'k mut X {
 
     fn in_use(&self) -> &[T] {
         (**self).in_use()
+    }
+
+    fn last(&self) -> Option<T> {
+        (**self).last()
     }
 
     fn push(&mut self, item: T) -> Result<(), Fault> {
