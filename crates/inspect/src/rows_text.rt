@@ -3,20 +3,15 @@ use crate::file::recorded_text;
 use crate::shown::Bytes;
 use crate::trouble::Trouble;
 use kinds::perms::MMPermissions;
-use rows::entry::Entry;
-use rows::path::PathCell;
-use rows::read::read_rows;
-use rows::row::Row;
+use kinds::rows::entry::Entry;
+use kinds::rows::flags::VmFlags;
+use kinds::rows::path::PathCell;
+use kinds::rows::read::read_rows;
+use kinds::rows::row::Row;
 use sources::input::{Form, Input};
 use std::alloc::Global;
 use std::fmt;
 use std::fmt::{Display, Formatter};
-
-// The names of the flags, from bit 0 on.
-const FLAGS: [&str; 32] = [
-    "rd", "wr", "ex", "sh", "mr", "mw", "me", "ms", "gd", "pf", "dw", "lo", "io", "sr", "rr", "dc",
-    "de", "ac", "nr", "ht", "sf", "nl", "ar", "wf", "dd", "sd", "mm", "hg", "nh", "mg", "um", "uw",
-];
 
 // How many flags a line has room for without moving the name.
 const ROOM: usize = 10;
@@ -75,12 +70,10 @@ struct Flags(u32);
 
 impl Display for Flags {
     fn fmt<W: fmt::Write>(&self, f: &mut Formatter<W>) -> fmt::Result {
-        let mut bits = self.0;
-        for name in FLAGS {
-            if bits & 1 == 1 {
+        for (bit, name) in VmFlags::NAMES {
+            if self.0 & bit != 0 {
                 write!(f, " {name}")?;
             }
-            bits >>= 1;
         }
         let set = self.0.count_ones() as usize;
         for _ in set..ROOM {

@@ -8,7 +8,7 @@ use Rattle.kinds.specs.declared.sort.Key.TheVariants.{Rss, Pss, SwapPss}
 use Rattle.kinds.specs.declared.measure.Closed.{Closed}
 use Rattle.kinds.specs.Sorts.{sort_of}
 use Rattle.kinds.specs.Measure.{measure_rules, fresh}
-use Rattle.kinds.specs.Sums.{opens, body, mappings_of, sum_over, total, figure, orderly, starts, closed_of, Keeps, both, whole}
+use Rattle.kinds.specs.Sums.{opens, body, mappings_of, sum_over, total, figure, orderly, starts, measure_of_lines, Keeps, both, whole}
 use Rattle.kinds.proofs.Measures.{reading-measures, closed_is, good-parts}
 use Rattle.kinds.proofs.Steps.{by_key}
 
@@ -64,12 +64,12 @@ starts-join : (ls ms : List (List ℕ)) → starts ls ≡ true → starts ms ≡
 starts-join [] ms a b = b
 starts-join (l ∷ ls) ms a b = a
 
-closed_join : (ls ms : List (List ℕ)) → starts ms ≡ true → closed_of (ls ++ ms) ≡ both (closed_of ls) (closed_of ms)
+closed_join : (ls ms : List (List ℕ)) → starts ms ≡ true → measure_of_lines (ls ++ ms) ≡ both (measure_of_lines ls) (measure_of_lines ms)
 closed_join ls ms e =
     closed_is (ap length (mappings_join ls ms e) ∙ length-append (mappings_of ls) (mappings_of ms)) (total-join Rss ls ms e) (total-join Pss ls ms e) (total-join SwapPss ls ms e)
 
-pub figure-closed : (k : Key) (ls : List (List ℕ)) (c : Closed) → c ≡ closed_of ls → figure k c.totals ≡ total k ls
-figure-closed k ls c e = rw e (by_key (λ k. figure k (closed_of ls).totals ≡ total k ls) refl refl refl k)
+pub figure-closed : (k : Key) (ls : List (List ℕ)) (c : Closed) → c ≡ measure_of_lines ls → figure k c.totals ≡ total k ls
+figure-closed k ls c e = rw e (by_key (λ k. figure k (measure_of_lines ls).totals ≡ total k ls) refl refl refl k)
 
 -- Where two texts are measured, the first empty or ending in byte 10, their join is measured exactly when that keeps the caps, and then all figures add.
 abbrev pub JoinsAdd : Type 0
@@ -87,7 +87,7 @@ joins_add t u c d w e f =
     let z : length (text_of (lines_of (t ++ u))) ≡ length t + length u = ap length (text_lines (t ++ u)) ∙ length-append t u in
     let a : (k : Key) → total k (lines_of (t ++ u)) ≡ figure k c.totals + figure k d.totals =
     λ k. rw j (omega (arith, total-join k T U s, figure-closed k T c g.is, figure-closed k U d h.is)) in
-    let b : closed_of (lines_of (t ++ u)) ≡ both c d = rw (j, g.is, h.is) (closed_join T U s) in (
+    let b : measure_of_lines (lines_of (t ++ u)) ≡ both c d = rw (j, g.is, h.is) (closed_join T U s) in (
       λ x y. let m = ((reading-measures (text (t ++ u) false) x).0 y).1 in
           (record { fits = omega (arith, m.fits, z); light = λ k. omega (arith, m.light k, a k) }, m.is ∙ b),
       λ y. (reading-measures (text (t ++ u) false) (both c d)).1 (

@@ -4,3 +4,4 @@ pub mod Measures
 pub mod Joins
 pub mod Laws
 pub mod Filled
+pub mod RowLemmas

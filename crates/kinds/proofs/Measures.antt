@@ -19,7 +19,7 @@ use Rattle.kinds.specs.declared.measure.State.{State}
 use Rattle.kinds.specs.declared.measure.State.TheVariants.{NoMapping, InMapping}
 use Rattle.kinds.specs.Sorts.{sort_of}
 use Rattle.kinds.specs.Measure.{no_figures, first, closed_with, next, fault_of, rules_at, max_total, measure_rules, fresh}
-use Rattle.kinds.specs.Sums.{opens, sound, mappings_of, sum_over, total, figure, orderly, closed_of, Measured, Measures}
+use Rattle.kinds.specs.Sums.{opens, sound, mappings_of, sum_over, total, figure, orderly, measure_of_lines, Measured, Measures}
 use Rattle.sources.proofs.Walks.{ends, judged-ok, judged-on}
 use Rattle.kinds.proofs.Steps.{rest, plus, total-opens, count_opens, rest_over, count_over, figure-none, sum_some, sum_fits, Stepped, step_sound, step_fine, some_byte}
 
@@ -27,7 +27,7 @@ total-over : (k : Key) → total k [] ≡ 0
 unfolding mappings_of sum_over
 total-over k = refl
 
-closed_over : closed_of [] ≡ record { mappings = 0; totals = no_figures }
+closed_over : measure_of_lines [] ≡ record { mappings = 0; totals = no_figures }
 unfolding mappings_of sum_over
 closed_over = refl
 
@@ -137,7 +137,7 @@ over_ok cap most false c e = (refl, record { begins = refl; good = refl; fits = 
 first_sum : (k : Key) (l : List ℕ) (ls : List (List ℕ)) → opens (sort_of l) ≡ true → figure k no_figures + rest k (figure k no_figures) ls ≡ total k (l ∷ ls)
 first_sum k l ls e = rw (figure-none k) (omega (arith, total-opens k l ls e))
 
-first_closed : (l : List ℕ) (ls : List (List ℕ)) → opens (sort_of l) ≡ true → reached first ls ≡ closed_of (l ∷ ls)
+first_closed : (l : List ℕ) (ls : List (List ℕ)) → opens (sort_of l) ≡ true → reached first ls ≡ measure_of_lines (l ∷ ls)
 first_closed l ls e = closed_is (sym (count_opens l ls e)) (first_sum Rss l ls e) (first_sum Pss l ls e) (first_sum SwapPss l ls e)
 
 pub measured : (cap most : ℕ) (broken : Bool) (ls : List (List ℕ)) (c : Closed) → most ≤ 4294967295 →

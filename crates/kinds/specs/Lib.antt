@@ -10,3 +10,4 @@ pub mod Sums
 pub mod StatusText
 pub mod LimitsText
 pub mod Samples
+pub mod Rows

@@ -72,8 +72,8 @@ starts [] = true
 starts (l ∷ ls) = opens (sort_of l)
 
 -- What the mappings of a text come to.
-abbrev pub closed_of : List (List ℕ) → Closed
-closed_of ls = record { mappings = length (mappings_of ls); totals = record { rss = total Rss ls; pss = total Pss ls; swap_pss = total SwapPss ls } }
+abbrev pub measure_of_lines : List (List ℕ) → Closed
+measure_of_lines ls = record { mappings = length (mappings_of ls); totals = record { rss = total Rss ls; pss = total Pss ls; swap_pss = total SwapPss ls } }
 
 -- A text of these lines is measured, as c.
 pub record Measured (cap most : ℕ) (ls : List (List ℕ)) (c : Closed) : Type 0 where
@@ -81,7 +81,7 @@ pub record Measured (cap most : ℕ) (ls : List (List ℕ)) (c : Closed) : Type 
   pub good : orderly ls ≡ true
   pub fits : length (text_of ls) ≤ most
   pub light : (k : Key) → total k ls ≤ cap
-  pub is : c ≡ closed_of ls
+  pub is : c ≡ measure_of_lines ls
 
 -- What is measured, and as what: the totals are the sums over the mappings.
 abbrev pub Measures : Text → Result Closed Refusal → Type 0

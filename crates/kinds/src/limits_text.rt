@@ -1,7 +1,7 @@
 ghost use Rattle.std.specs.Prelude.{◌≡◌};
 ghost use Rattle.kinds.specs.LimitsText.{limits_of, LimitsByLastLines, LimitsInEditions};
 
-use crate::filling::read_record;
+use crate::open_record::read_record;
 use limits::record::Limits;
 use limits::slots::LimitsSlots;
 use sources::fault::Refusal;

@@ -53,7 +53,8 @@ fn setting_of(line: &str) -> Result<Option<Setting>, Fault>
     Ok(key_of(key).map(|key| Setting { key, amount }))
 }
 
-fn capital_first(line: &str) -> bool
+// Whether the first byte is one of A to Z.
+pub(crate) fn capital_first(line: &str) -> bool
     ensures { result ≡ capital line.now }
 {
     line.as_bytes().first().is_some_and(u8::is_ascii_uppercase)

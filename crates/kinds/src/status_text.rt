@@ -1,7 +1,7 @@
 ghost use Rattle.std.specs.Prelude.{◌≡◌};
 ghost use Rattle.kinds.specs.StatusText.{status_of, StatusByLastLines, StatusInEditions};
 
-use crate::filling::read_record;
+use crate::open_record::read_record;
 use sources::fault::Refusal;
 use sources::source::Source;
 use status::record::{Status, StatusSlots};

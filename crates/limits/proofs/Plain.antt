@@ -1,5 +1,5 @@
 -- Lines that begin with a name as it is written, then a space.
-use Rattle.std.proofs.Common.{◌≡◌, ◌==◌, ℕ, zero, suc, ◌+◌, ◌<◌, Bool, true, false, cond, List, [], ◌∷◌, ◌++◌, map, length, take, drop, Some, None, Ok, Err, codes, IsUtf8, Option, Result, subst, sym, refl, ap, ◌∙◌, arith, nat_lt, slice_index_or}
+use Rattle.std.proofs.Common.{◌≡◌, ℕ, zero, suc, ◌+◌, ◌<◌, Bool, true, false, cond, List, [], ◌∷◌, ◌++◌, map, length, take, drop, Some, None, Ok, Err, codes, IsUtf8, Option, Result, subst, sym, refl, ap, ◌∙◌, arith, nat_lt, slice_index_or}
 use lib.Utf8.{encode, encodes}
 use Rattle.std.specs.Char.{is_whitespace}
 use Rattle.std.specs.Option.{option_map}
@@ -12,6 +12,7 @@ use Rattle.sources.specs.Faults.{fault}
 use Rattle.sources.specs.Pieces.{strip_prefix}
 use Rattle.sources.specs.White.{nth, white_words}
 use Rattle.sources.specs.Words.{words_between}
+use Rattle.sources.proofs.Ends.{strip_prefix-sound}
 use Rattle.sources.proofs.Spaced.{utf8_after}
 use Rattle.limits.specs.Entries.{Entry, is_heading, name_length, place_in, trimmed_entry, words_behind}
 use Rattle.limits.specs.Names.{names, place_of}
@@ -141,17 +142,5 @@ plain_entry t r place soft hard ut ur lp et es eh el =
     let ws : white_words t ≡ n.parts ++ white_words r = ap (λ cs. map encodes (words_between is_whitespace cs)) (two t r (own ++ (32 ∷ [])) ut ur (et ∙ n.bytes r)) ∙ n.words (chars r) in
     entry_in t place n.parts soft hard _ (ap is_heading et ∙ n.heading r) (ws ∙ ap (λ vs. n.parts ++ vs) (two_first soft hard _ es eh)) (n.place ∙ ap Some (omega arith)) n.some el
 
-by_test : (c b : ℕ) (cs bs r : List ℕ) (q : Bool) → (b == c) ≡ q → (strip_prefix cs bs ≡ Some r → bs ≡ cs ++ r) → cond q (strip_prefix cs bs) None ≡ Some r → b ∷ bs ≡ c ∷ (cs ++ r)
-by_test c b cs bs r true q more h =
-    let same : b ≡ c = grind (arith, nat_tests, q) in
-    let rest = more h in
-    cc
-by_test c b cs bs r false q more h = cc
-
-past_sound : (p bs r : List ℕ) → strip_prefix p bs ≡ Some r → bs ≡ p ++ r
-past_sound [] bs r e = cc
-past_sound (c ∷ cs) [] r e = cc
-past_sound (c ∷ cs) (b ∷ bs) r e = by_test c b cs bs r (b == c) refl (past_sound cs bs r) e
-
 pub past_two : (p bs x r : List ℕ) → Some x ≡ strip_prefix p bs → Some r ≡ strip_prefix (32 ∷ []) x → bs ≡ p ++ (32 ∷ r)
-past_two p bs x r e f = past_sound p bs x (sym e) ∙ ap (λ ys. p ++ ys) (past_sound (32 ∷ []) x r (sym f))
+past_two p bs x r e f = strip_prefix-sound p bs x (sym e) ∙ ap (λ ys. p ++ ys) (strip_prefix-sound (32 ∷ []) x r (sym f))

@@ -6,7 +6,7 @@ use Rattle.sources.specs.declared.reason.Reason.TheVariants.{Short}
 use Rattle.sources.specs.Faults.{fault}
 use Rattle.sources.specs.Pieces.{strip_prefix}
 use Rattle.sources.specs.White.{trim, white_words}
-use Rattle.limits.specs.declared.line.Setting.{Setting}
+use Rattle.limits.specs.declared.line.LimitLine.{LimitLine}
 use Rattle.limits.specs.Names.{place_of}
 use Rattle.limits.specs.Words.{word_at}
 
@@ -55,9 +55,9 @@ abbrev pub is_foreign : List ℕ → Bool
 is_foreign line = trimmed_foreign (trim line)
 
 -- What an entry that borrows its line says.
-abbrev pub told_entry : Setting → Entry
+abbrev pub told_entry : LimitLine → Entry
 told_entry s = (s.place + 1, (s.soft.now, s.hard.now))
 
-abbrev pub seen_entry : Result (Option Setting) Fault → Result (Option Entry) Fault
+abbrev pub seen_entry : Result (Option LimitLine) Fault → Result (Option Entry) Fault
 seen_entry (Ok o) = Ok (option_map told_entry o)
 seen_entry (Err f) = Err f

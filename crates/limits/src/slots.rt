@@ -6,7 +6,7 @@ ghost use Rattle.limits.specs.LimitsLaws.{foreign_empty, no_entries, one_entry_m
 ghost use Rattle.limits.specs.Record.{fresh_slots, fill_limits, judged_limits, blank_limits};
 
 use crate::limit::Limit;
-use crate::line::Setting;
+use crate::line::LimitLine;
 use crate::record::Limits;
 use fields::slot::{Slot, needed};
 use fields::slots::Slots;
@@ -61,7 +61,7 @@ impl Slots for LimitsSlots {
 
     #[tactic(auto, using(crate::proofs::Entered::slot_set))]
     fn put_line(&mut self, line: &str) -> Result<(), Fault> {
-        if let Some(s) = Setting::from_line(line)? {
+        if let Some(s) = LimitLine::from_line(line)? {
             self.slots[s.place] = Some(Limit::from_pair(s.soft, s.hard));
         }
         Ok(())

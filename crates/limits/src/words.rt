@@ -31,7 +31,8 @@ pub fn same_words(text: &str, n: usize, name: &str) -> bool
 fn unitless(text: &str) -> bool
     ensures { result ≡ unitless_of text.now }
 {
-    strip_prefix(text, "Max nice priority").is_some() || strip_prefix(text, "Max realtime priority").is_some()
+    strip_prefix(text, "Max nice priority").is_some()
+        || strip_prefix(text, "Max realtime priority").is_some()
 }
 
 // How many words stand behind the name.

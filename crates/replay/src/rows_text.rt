@@ -2,10 +2,10 @@
 use crate::quoted::Quoted;
 use crate::text::Text;
 use crate::{Answer, record_answer};
-use rows::entry::Entry;
-use rows::path::Place;
-use rows::read::{Counts, read_rows};
-use rows::row::Row;
+use kinds::rows::entry::Entry;
+use kinds::rows::path::Place;
+use kinds::rows::read::{Counts, read_rows};
+use kinds::rows::row::Row;
 use std::alloc::{AllocError, Global};
 use std::fmt;
 use std::fmt::{Display, Formatter};

@@ -4,10 +4,10 @@
 #[cfg(test)]
 mod tests {
     use kinds::perms::MMPermissions;
-    use rows::entry::Entry;
-    use rows::path::{PathCell, Place};
-    use rows::read::{Counts, read_rows};
-    use rows::row::Row;
+    use kinds::rows::entry::Entry;
+    use kinds::rows::path::{PathCell, Place};
+    use kinds::rows::read::{Counts, read_rows};
+    use kinds::rows::row::Row;
     use sources::fault::Refusal;
     use sources::held::Held;
     use sources::reason::Reason;
