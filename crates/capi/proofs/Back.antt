@@ -7,13 +7,14 @@ use Rattle.std.specs.Ordering.{int_eq}
 use Rattle.std.proofs.lemmas.Bool.{and_parts}
 use Rattle.std.proofs.lemmas.Bool.Decides.{Decides-int_eq, nat_tests}
 use Rattle.status.specs.States.{state_of}
+use Rattle.kinds.specs.Measure.{max_total}
 use Rattle.packing.specs.declared.place.Place.{Place}
 use Rattle.packing.specs.declared.place.Noted.{Noted}
 use Rattle.packing.specs.declared.place.Bounds.{Bounds}
 use Rattle.limits.specs.declared.limit.LimitValue.{LimitValue}
 use Rattle.limits.specs.declared.limit.LimitValue.TheVariants.{Unlimited, Value}
 use Rattle.packing.specs.Packed.{packing}
-use Rattle.packing.specs.Places.{no_places, max_charge, charge_of, spot}
+use Rattle.packing.specs.Places.{no_places, charge_of, spot}
 use Rattle.packing.specs.Restored.{has_state, can_keep, can_stand, kept_well}
 use Rattle.capi.specs.Cells.{there, letter_in, bound_in, place_in, free_cell, unlimited_flag, value_or_zero, note_or_zeros, bounds_or_zeros, cell_of, list_in}
 
@@ -76,8 +77,8 @@ unfolding can_stand can_keep
 place_back None os e = refl
 place_back (Some p) os e =
     let a = and_parts (can_keep p) (is_none (spot p.pid os)) e in
-    let b = and_parts (not (int_lt p.pid (pos 1)) && not (nat_lt max_charge (charge_of p))) (has_state p.noted) a.0 in
-    let c = and_parts (not (int_lt p.pid (pos 1))) (not (nat_lt max_charge (charge_of p))) b.0 in
+    let b = and_parts (not (int_lt p.pid (pos 1)) && not (nat_lt max_total (charge_of p))) (has_state p.noted) a.0 in
+    let c = and_parts (not (int_lt p.pid (pos 1))) (not (nat_lt max_total (charge_of p))) b.0 in
     rw (taken p.pid c.0, noted_back p.noted b.1, bounded_back p.bounds) refl
 
 pub places_back : (ps : List (Option Place)) → kept_well ps ≡ true → map place_in (map cell_of ps) ≡ ps

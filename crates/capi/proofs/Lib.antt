@@ -1,4 +1,4 @@
 pub mod Maps
-pub mod Texts
+pub mod TextCalls
 pub mod Back
 pub mod Next

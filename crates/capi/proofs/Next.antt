@@ -5,13 +5,12 @@ use Rattle.sources.specs.declared.fault.Refusal.{Refusal}
 use Rattle.sources.specs.Texts.{Text}
 use Rattle.kinds.specs.declared.measure.Closed.{Closed}
 use Rattle.packing.specs.declared.place.Place.{Place}
-use Rattle.packing.specs.declared.place.News.{News}
 use Rattle.packing.specs.Packed.{Packing, packing}
 use Rattle.packing.specs.Restored.{kept_well}
-use Rattle.packing.specs.Calls.{admit_refusal, remeasure_refusal, unknown_refusal, admit_of, remeasure_of, note_of, bound_of, release_of, handing, leaving, hears, note_in as noted_in, bounds_in as bounds_read}
+use Rattle.packing.specs.Calls.{admit_refusal, remeasure_refusal, unknown_refusal, admit_of, remeasure_of, note_of, bound_of, release_of, handing, leaving, keeping, note_in as noted_in, bounds_in as bounds_read}
 use Rattle.capi.specs.declared.cell.Cell.{Cell}
 use Rattle.capi.specs.Cells.{place_in, list_in}
-use Rattle.capi.specs.Exports.{bare, untold}
+use Rattle.capi.specs.Exports.{bare, without_text}
 use Rattle.capi.specs.Next.{HoldsNext}
 
 abbrev Called : Type 0
@@ -61,10 +60,10 @@ left_alike : (o : Option Refusal) (k m : ℕ) (xs ps : List (Option Place)) → 
 left_alike None k m xs ps = refl
 left_alike (Some f) k m xs ps = refl
 
-heard_alike : {X : Type 0} (o : Option Refusal) (as_news : X → News) (pid : ℤ) (told : Result X Refusal × Text) (t : Text) → (k m : ℕ) (ps : List (Option Place)) → untold (hears o as_news pid told t (packing k ps)) ≡ under k (untold (hears o as_news pid told t (packing m ps)))
-heard_alike {X} None as_news pid (Ok x, left) t k m ps = refl
-heard_alike {X} None as_news pid (Err f, left) t k m ps = refl
-heard_alike {X} (Some f) as_news pid told t k m ps = refl
+kept_alike : {X : Type 0} (o : Option Refusal) (change : X → Place → Place) (pid : ℤ) (read : Result X Refusal × Text) (t : Text) → (k m : ℕ) (ps : List (Option Place)) → without_text (keeping o change pid read t (packing k ps)) ≡ under k (without_text (keeping o change pid read t (packing m ps)))
+kept_alike {X} None change pid (Ok x, left) t k m ps = refl
+kept_alike {X} None change pid (Err f, left) t k m ps = refl
+kept_alike {X} (Some f) change pid read t k m ps = refl
 
 pub admit_alike : (pid : ℤ) (headroom : ℕ) (c : Closed) (m : ℕ) → Alike (λ l. bare (admit_of pid headroom c l)) m m
 admit_alike pid headroom c m ps = handed_alike (admit_refusal pid headroom c (packing m ps)) c m m _ ps
@@ -77,10 +76,10 @@ pub release_alike : (pid : ℤ) (k m : ℕ) → Alike (release_of pid) k m
 unfolding unknown_refusal
 release_alike pid k m ps = left_alike (unknown_refusal pid (packing k ps)) k m _ ps
 
-pub note_alike : (pid : ℤ) (t : Text) (k m : ℕ) → Alike (λ l. untold (note_of pid t l)) k m
+pub note_alike : (pid : ℤ) (t : Text) (k m : ℕ) → Alike (λ l. without_text (note_of pid t l)) k m
 unfolding unknown_refusal
-note_alike pid t k m ps = heard_alike (unknown_refusal pid (packing k ps)) _ pid (noted_in pid t) t k m ps
+note_alike pid t k m ps = kept_alike (unknown_refusal pid (packing k ps)) _ pid (noted_in pid t) t k m ps
 
-pub bound_alike : (pid : ℤ) (t : Text) (k m : ℕ) → Alike (λ l. untold (bound_of pid t l)) k m
+pub bound_alike : (pid : ℤ) (t : Text) (k m : ℕ) → Alike (λ l. without_text (bound_of pid t l)) k m
 unfolding unknown_refusal
-bound_alike pid t k m ps = heard_alike (unknown_refusal pid (packing k ps)) _ pid (bounds_read t) t k m ps
+bound_alike pid t k m ps = kept_alike (unknown_refusal pid (packing k ps)) _ pid (bounds_read t) t k m ps

@@ -1,5 +1,5 @@
 -- The caller's cells: what stands in each, and the list that 64 of them hold.
-use Rattle.std.specs.Prelude.{ℕ, ◌==◌, cond, List, length, map, is_some, Some, None, Option, pos, nat_lt}
+use Rattle.std.specs.Prelude.{ℕ, ◌==◌, if◌then◌else◌, List, length, map, is_some, Some, None, Option, pos, nat_lt}
 use Rattle.std.specs.Int.{from_bool}
 use Rattle.std.specs.Option.{unwrap_or}
 use Rattle.std.specs.Ordering.{int_eq}
@@ -16,14 +16,14 @@ use Rattle.capi.specs.declared.cell.Measure.{Measure}
 
 -- What a flag says is there: 0 says that it is not.
 abbrev pub there : {X : Type 0} → ℕ → X → Option X
-there {X} flag x = cond (flag == 0) None (Some x)
+there {X} flag x = if flag == 0 then None else Some x
 
 -- The letter of a number: one above 255 is read as 0, which is no state's.
 abbrev pub letter_in : ℕ → ℕ
-letter_in n = cond (nat_lt n 256) n 0
+letter_in n = if nat_lt n 256 then n else 0
 
 abbrev pub bound_in : ℕ → ℕ → LimitValue
-bound_in unlimited value = cond (unlimited == 0) (Value value) Unlimited
+bound_in unlimited value = if unlimited == 0 then Value value else Unlimited
 
 abbrev pub note_in : Cell → Option Noted
 note_in c = there c.noted (record { state = letter_in c.state; threads = c.threads; vmrss = there c.has_vmrss c.vmrss })
@@ -34,8 +34,8 @@ bounds_in c = there c.bounded (record { address_space = bound_in c.address_space
 -- What stands in a cell; with pid 0 it is free.
 abbrev pub place_in : Cell → Option Place
 place_in c =
-    cond (int_eq c.pid (pos 0)) None
-    (Some (record { pid = c.pid; headroom = c.headroom; mappings = c.mappings; totals = record { rss = c.rss; pss = c.pss; swap_pss = c.swap_pss }; noted = note_in c; bounds = bounds_in c }))
+    if int_eq c.pid (pos 0) then None else
+    Some (record { pid = c.pid; headroom = c.headroom; mappings = c.mappings; totals = record { rss = c.rss; pss = c.pss; swap_pss = c.swap_pss }; noted = note_in c; bounds = bounds_in c })
 
 -- All zeros.
 abbrev pub free_cell : Cell
@@ -86,7 +86,7 @@ cell_of (Some p) = cell_of_job p
 
 -- The list of a limit that cells hold, if they hold one.
 unfoldable pub list_in : ℕ → List Cell → Option Packing
-list_in limit cells = cond (length cells == 64) (restored_of limit (map place_in cells)) None
+list_in limit cells = if length cells == 64 then restored_of limit (map place_in cells) else None
 
 -- The figures of a measure, and the measure of figures.
 abbrev pub figures_of : Closed → Measure

@@ -1,5 +1,5 @@
 -- What each export answers, and what it leaves in the caller's memory.
-use Rattle.std.specs.Prelude.{ℕ, ◌==◌, cond, List, length, map, replicate, Some, None, Ok, Err, Option, Result, ℤ}
+use Rattle.std.specs.Prelude.{ℕ, ◌==◌, if◌then◌else◌, List, length, map, replicate, Some, None, Ok, Err, Option, Result, ℤ}
 use Rattle.sources.specs.declared.fault.Refusal.{Refusal}
 use Rattle.sources.specs.Texts.{Text}
 use Rattle.kinds.specs.declared.measure.Closed.{Closed}
@@ -16,17 +16,17 @@ use Rattle.capi.specs.Answers.{accepted, wrong_use, answer_of}
 use Rattle.capi.specs.Cells.{free_cell, cell_of, list_in, figures_of, closed_in, no_figures}
 
 -- The figures of a text, or zeros.
-abbrev pub told : Result Closed Refusal → Answer × Measure
-told (Ok c) = (accepted, figures_of c)
-told (Err f) = (answer_of f, no_figures)
+abbrev pub figures_or_zeros : Result Closed Refusal → Answer × Measure
+figures_or_zeros (Ok c) = (accepted, figures_of c)
+figures_or_zeros (Err f) = (answer_of f, no_figures)
 
 abbrev pub measure_in : Result Text Answer → Answer × Measure
-measure_in (Ok t) = told (measured t)
+measure_in (Ok t) = figures_or_zeros (measured t)
 measure_in (Err a) = (a, no_figures)
 
 -- 64 free places.
 abbrev pub new_in : List Cell → Answer × List Cell
-new_in cells = cond (length cells == 64) (accepted, replicate 64 free_cell) (wrong_use, cells)
+new_in cells = if length cells == 64 then (accepted, replicate 64 free_cell) else (wrong_use, cells)
 
 -- What a call leaves: the cells of the list, or of a call that was refused the cells as they were.
 abbrev pub left_by : Result (Unit {0}) Refusal × Packing → List Cell → Answer × List Cell
@@ -57,14 +57,14 @@ abbrev pub release_in : ℤ → List Cell → Answer × List Cell
 release_in pid cells = on_list (release_of pid) (list_in any_limit cells) cells
 
 -- What note and bound answer and leave, without the text that they leave.
-abbrev pub untold : Result (Unit {0}) Refusal × Packing × Text → Result (Unit {0}) Refusal × Packing
-untold (r, l, t) = (r, l)
+abbrev pub without_text : Result (Unit {0}) Refusal × Packing × Text → Result (Unit {0}) Refusal × Packing
+without_text (r, l, t) = (r, l)
 
 abbrev pub note_on : ℤ → Text → List Cell → Answer × List Cell
-note_on pid t cells = on_list (λ l. untold (note_of pid t l)) (list_in any_limit cells) cells
+note_on pid t cells = on_list (λ l. without_text (note_of pid t l)) (list_in any_limit cells) cells
 
 abbrev pub bound_on : ℤ → Text → List Cell → Answer × List Cell
-bound_on pid t cells = on_list (λ l. untold (bound_of pid t l)) (list_in any_limit cells) cells
+bound_on pid t cells = on_list (λ l. without_text (bound_of pid t l)) (list_in any_limit cells) cells
 
 -- Without a text nothing is called.
 abbrev pub note_in : ℤ → Result Text Answer → List Cell → Answer × List Cell

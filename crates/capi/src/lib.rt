@@ -6,15 +6,15 @@ ghost use Rattle.std.specs.Prelude.{◌≡◌, ℕ, Some, length};
 ghost use Rattle.packing.specs.Calls.{new_list, admit_of, remeasure_of, note_of, bound_of, release_of};
 ghost use Rattle.capi.specs.Cells.{closed_in, list_in};
 ghost use Rattle.capi.specs.Parts.{join_of};
-ghost use Rattle.capi.specs.Exports.{measure_in, new_in, used_in, admit_in, remeasure_in, note_in, bound_in, release_in, look_in, bare, untold};
+ghost use Rattle.capi.specs.Exports.{measure_in, new_in, used_in, admit_in, remeasure_in, note_in, bound_in, release_in, look_in, bare, without_text};
 ghost use Rattle.capi.specs.Next.{HoldsNext, HoldsNextOfAny, HoldsNextWith};
 ghost use Rattle.capi.specs.Words.{word_in, written};
 
 mod answer;
 mod cell;
-mod heard;
 mod held;
 mod part;
+mod texts;
 mod word;
 
 use answer::Answer;
@@ -27,7 +27,7 @@ use sources::held::Held;
 use word::word;
 
 // Measures smaps text.
-#[tactic(auto, using(crate::proofs::Texts::alone))]
+#[tactic(auto, using(crate::proofs::TextCalls::alone))]
 #[unsafe(no_mangle)]
 pub extern "C" fn jomukahu_measure(
     first_form: u32,
@@ -40,10 +40,10 @@ pub extern "C" fn jomukahu_measure(
 {
     if first_form == PLAIN && second_form == PLAIN && second.is_empty() {
         // One text as it stands, as most come, is read faster by a source of it alone.
-        return heard::measured(&mut Held::new(first), figures);
+        return texts::measured(&mut Held::new(first), figures);
     }
     match join(first_form, first, second_form, second) {
-        Ok(mut text) => heard::measured(&mut text, figures),
+        Ok(mut text) => texts::measured(&mut text, figures),
         Err(answer) => {
             *figures = Measure::zeros();
             answer
@@ -121,10 +121,10 @@ pub extern "C" fn jomukahu_note(
     second: &[u8],
 ) -> Answer
     ensures defined { (result, places.new) ≡ note_in pid (join_of first_form first.now second_form second.now) places.old }
-    ensures holds { HoldsNextWith (λ t l. untold (note_of pid t l)) (join_of first_form first.now second_form second.now) places.old places.new }
+    ensures holds { HoldsNextWith (λ t l. without_text (note_of pid t l)) (join_of first_form first.now second_form second.now) places.old places.new }
 {
     match join(first_form, first, second_form, second) {
-        Ok(mut text) => heard::note(places, pid, &mut text),
+        Ok(mut text) => texts::note(places, pid, &mut text),
         Err(answer) => answer,
     }
 }
@@ -140,10 +140,10 @@ pub extern "C" fn jomukahu_bound(
     second: &[u8],
 ) -> Answer
     ensures defined { (result, places.new) ≡ bound_in pid (join_of first_form first.now second_form second.now) places.old }
-    ensures holds { HoldsNextWith (λ t l. untold (bound_of pid t l)) (join_of first_form first.now second_form second.now) places.old places.new }
+    ensures holds { HoldsNextWith (λ t l. without_text (bound_of pid t l)) (join_of first_form first.now second_form second.now) places.old places.new }
 {
     match join(first_form, first, second_form, second) {
-        Ok(mut text) => heard::bound(places, pid, &mut text),
+        Ok(mut text) => texts::bound(places, pid, &mut text),
         Err(answer) => answer,
     }
 }

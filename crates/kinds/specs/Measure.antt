@@ -94,7 +94,7 @@ end_of cap (Refused f) = Err f
 abbrev pub rules_at : ℕ → Rules State Closed
 rules_at cap = record { next = λ m line. next cap m (sort_of line); refused = fault_of; closed = end_of cap; on_break = Refuses }
 
--- The most that a total may be, 2 to the 56th.
+-- The most that a total may be, and the most that the packing list charges a job: 2 to the 56th.
 abbrev pub max_total : ℕ
 max_total = 72057594037927936
 

@@ -17,8 +17,8 @@ use sources::reason::Reason;
 use sources::source::Source;
 use sources::spool::Spool;
 
-// The most that one total may be, 2 to the 56th. It is passed on as `cap`: the sums and their laws are those of any cap, and name no number.
-const CAP: u64 = 72057594037927936;
+// The most that one total may be, and the most that the packing list charges a job: 2 to the 56th. Here it is passed on as `cap`: the sums and their laws are those of any cap, and name no number.
+pub const CAP: u64 = 72057594037927936;
 
 // One figure for each of the keys, in bytes.
 #[derive(Clone, Copy, PartialEq, Eq, Debug, Default)]

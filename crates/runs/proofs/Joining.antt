@@ -9,14 +9,14 @@ use Rattle.runs.specs.declared.call.Call.{Call}
 use Rattle.runs.specs.declared.call.Call.TheVariants.{Measure, Used}
 use Rattle.runs.specs.declared.call.Answer.{Answer}
 use Rattle.runs.specs.declared.call.Answer.TheVariants.{Missing, Made}
-use Rattle.runs.specs.Run.{Desk, made, of_measure, served, answers}
+use Rattle.runs.specs.Run.{RunState, made, of_measure, served, answers}
 use Rattle.runs.specs.Joins.{JoinsAdd}
 
 abbrev is_measure : Call Text → Bool
 is_measure (Measure t) = true
 is_measure _ = false
 
-measures : (d : Desk) (cs : List (Call Text)) (i : ℕ) (t : Text) → get_or cs i Used ≡ Measure t → get_or (answers d cs) i Missing ≡ of_measure (measured t)
+measures : (d : RunState) (cs : List (Call Text)) (i : ℕ) (t : Text) → get_or cs i Used ≡ Measure t → get_or (answers d cs) i Missing ≡ of_measure (measured t)
 unfolding answers
 measures d [] i t e = absurd (let z : false ≡ true = ap is_measure e in cc)
 measures d (c ∷ cs) zero t e = ap (λ (x : Call Text). (served d x).0) e
@@ -34,7 +34,7 @@ back : (r : Result Closed Refusal) (c : Closed) → of_measure r ≡ made c → 
 back (Ok d) c e = ap (λ (a : Answer). Ok (unmade c a)) e
 back (Err f) c e = absurd (let z : false ≡ true = ap is_made e in cc)
 
-pub joins : (d : Desk) (cs : List (Call Text)) → JoinsAdd cs (answers d cs)
+pub joins : (d : RunState) (cs : List (Call Text)) → JoinsAdd cs (answers d cs)
 joins d cs i j k t u c e h =
     let law = joins_add t u c e h.ends (back (measured (text t false)) c (sym (measures d cs i (text t false) h.first.measures) ∙ h.first.makes)) (back (measured (text u false)) e (sym (measures d cs j (text u false) h.second.measures) ∙ h.second.makes)) in
     let z = measures d cs k (text (t ++ u) false) h.join in (

@@ -1,4 +1,4 @@
-pub mod Desks
+pub mod Charges
 pub mod Turns
 pub mod Twins
 pub mod Spots

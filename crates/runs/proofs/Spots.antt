@@ -2,13 +2,13 @@
 use Rattle.std.proofs.Common.{◌≡◌, ◌∙◌, sym, refl, subst, ℕ, suc, ◌+◌, Bool, true, false, List, [], ◌∷◌, Option, Some, None, ℤ, get_or, length, arith}
 use Rattle.std.specs.Prelude.{cond, sum_by, position, is_none, is_some, nat_lt}
 use Rattle.std.specs.List.{position_or_len}
+use Rattle.std.specs.Option.{option_map}
 use Rattle.std.proofs.lemmas.Bool.Decides.{nat_tests}
 use Rattle.std.proofs.lemmas.List.{get_or_past}
 use Rattle.std.proofs.lemmas.List.Sums.{sum_by-set}
 use Rattle.std.proofs.lemmas.List.Quantifiers.{position-Some}
 use Rattle.packing.specs.declared.place.Place.{Place}
-use Rattle.packing.specs.declared.place.News.{News}
-use Rattle.packing.specs.Places.{at, write, spot, free, found, is_of, is_free, with_place, with_news, without, learnt_at}
+use Rattle.packing.specs.Places.{at, write, spot, free, found, is_of, is_free, with_place, changed, without}
 
 -- what stands at the first place that passes
 unfoldable pub first : (Option Place → Bool) → List (Option Place) → Option Place
@@ -65,16 +65,16 @@ free-none : (o : Option Place) → is_free o ≡ true → o ≡ None
 free-none None h = refl
 free-none (Some x) h = absurd (let z : false ≡ true = h in cc)
 
--- The sums of a list with a job more, with news of a job, and without one.
+-- The sums of a list with a job more, with what is kept of one changed, and without one.
 pub sum-with_place : (f : Option Place → ℕ) (p : Place) (ps : List (Option Place)) → is_none (free ps) ≡ false → sum_by f (with_place p ps) + f None ≡ sum_by f ps + f (Some p)
 unfolding with_place free
 sum-with_place f p ps h =
     let some = not-none (position is_free ps) h in
     subst (λ (o : Option Place). sum_by f (write (position is_free ps) (Some p) ps) + f o ≡ sum_by f ps + f (Some p)) (free-none (at (position is_free ps) ps) (passes-at is_free ps some)) (sum-write f is_free (Some p) ps some)
 
-pub sum-with_news : (f : Option Place → ℕ) (pid : ℤ) (n : News) (ps : List (Option Place)) → is_some (found pid ps) ≡ true → sum_by f (with_news pid n ps) + f (found pid ps) ≡ sum_by f ps + f (learnt_at n (found pid ps))
-unfolding with_news found spot
-sum-with_news f pid n ps h = sum-write f (is_of pid) (learnt_at n (at (position (is_of pid) ps) ps)) ps (some-at (position (is_of pid) ps) ps h)
+pub sum-changed : (f : Option Place → ℕ) (pid : ℤ) (g : Place → Place) (ps : List (Option Place)) → is_some (found pid ps) ≡ true → sum_by f (changed pid g ps) + f (found pid ps) ≡ sum_by f ps + f (option_map g (found pid ps))
+unfolding changed found spot
+sum-changed f pid g ps h = sum-write f (is_of pid) (option_map g (at (position (is_of pid) ps) ps)) ps (some-at (position (is_of pid) ps) ps h)
 
 pub sum-without : (f : Option Place → ℕ) (pid : ℤ) (ps : List (Option Place)) → is_some (found pid ps) ≡ true → sum_by f (without pid ps) + f (found pid ps) ≡ sum_by f ps + f None
 unfolding without found spot

@@ -1,5 +1,5 @@
 -- The sums of a run, told by its calls and answers alone: a ledger of the jobs that are in the list, each with its headroom and the text last charged.
-use Rattle.std.specs.Prelude.{◌≡◌, ℕ, ◌+◌, ◌<◌, ◌≤◌, Bool, true, false, cond, not, List, [], ◌∷◌, ◌++◌, get_or, map, filter, sum_by, count_by, ℤ}
+use Rattle.std.specs.Prelude.{◌≡◌, ℕ, ◌+◌, ◌<◌, ◌≤◌, Bool, true, false, if◌then◌else◌, not, List, [], ◌∷◌, ◌++◌, slice_index_or, map, filter, sum_by, count_by, ℤ}
 use Rattle.std.specs.Ordering.{int_eq}
 use Rattle.sources.specs.Lines.{lines_of}
 use Rattle.sources.specs.Texts.{Text}
@@ -38,13 +38,13 @@ texts ts _ = ts
 
 -- Another text is charged to a job.
 abbrev pub recharged : ℤ → List ℕ → Entry → Entry
-recharged pid bytes e = cond (is_for pid e) (record { pid = e.pid; headroom = e.headroom; bytes = bytes }) e
+recharged pid bytes e = if is_for pid e then record { pid = e.pid; headroom = e.headroom; bytes = bytes } else e
 
 -- The ledger after a call, by its answer: a job is in from an accepted admit to the next accepted release.
 abbrev pub ledger_after : List (List ℕ) → List Entry → Call Text → Answer → List Entry
-ledger_after ts s (Admit pid headroom k) a = cond (accepted a) (record { pid = pid; headroom = headroom; bytes = get_or ts k [] } ∷ s) s
-ledger_after ts s (Remeasure pid k) a = cond (accepted a) (map (recharged pid (get_or ts k [])) s) s
-ledger_after ts s (Release pid) a = cond (accepted a) (filter (λ e. not (is_for pid e)) s) s
+ledger_after ts s (Admit pid headroom k) a = if accepted a then record { pid = pid; headroom = headroom; bytes = slice_index_or ts k [] } ∷ s else s
+ledger_after ts s (Remeasure pid k) a = if accepted a then map (recharged pid (slice_index_or ts k [])) s else s
+ledger_after ts s (Release pid) a = if accepted a then filter (λ e. not (is_for pid e)) s else s
 ledger_after ts s _ a = s
 
 -- What used answers is the sum over the jobs that are in.

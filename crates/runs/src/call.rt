@@ -37,7 +37,7 @@ pub enum Call<S> {
 // What came of a call.
 #[derive(Clone, Copy, PartialEq, Eq, Debug)]
 pub enum Answer {
-    // No such measure is in hand: none was made, it was refused, or it is charged.
+    // There is no such measure: none was made, it was refused, or it is charged.
     Missing,
     // A measure was made, with these figures.
     Made {

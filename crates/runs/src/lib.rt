@@ -2,5 +2,5 @@
 #![tactic(auto)]
 
 pub mod call;
-mod desk;
 pub mod run;
+mod run_state;

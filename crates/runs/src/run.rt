@@ -1,22 +1,25 @@
-ghost use Rattle.std.specs.Prelude.{◌≡◌, ◌≤◌, ◌↔◌, IsOk, IfOk, map, vec_len};
+ghost use Rattle.std.specs.Prelude.{◌≡◌, ◌≤◌, ◌↔◌, Some, IsOk, IfOk, map, vec_len};
+ghost use Rattle.runs.specs.Room.{no_room_text};
 ghost use Rattle.runs.specs.Run.{textual, answers_of};
 ghost use Rattle.runs.specs.Ledger.{SumsHold};
 ghost use Rattle.runs.specs.Newer.{SameInEditions};
 ghost use Rattle.runs.specs.Joins.{JoinsAdd};
 
 use crate::call::{Answer, Call};
-use crate::desk::Desk;
+use crate::run_state::RunState;
 use kinds::measure::Closed;
 use packing::list::PackingList;
 use sources::source::Source;
 use std::alloc::{AllocError, Global};
+use std::error::Error;
+use std::fmt;
 use std::marker::Model;
 
-// The memory of a run: for its answers, and for the measures in hand. It is for so many calls.
+// The memory of a run: for its answers, and for its measures. It is for so many calls.
 #[derive(Drop)]
 pub struct Memory {
     answers: Vec<Answer>,
-    bench: Vec<Option<Closed>>,
+    measures: Vec<Option<Closed>>,
 }
 
 impl Model for Memory {
@@ -27,7 +30,7 @@ impl Model for Memory {
 
     ghost view = { λ m. vec_capacity m.answers };
 
-    ghost invariant = { λ m. (m.answers.items ≡ []) × (vec_len m.answers ≡ 0) × (m.bench.items ≡ []) × (vec_len m.bench ≡ 0) × (vec_capacity m.bench ≡ vec_capacity m.answers) };
+    ghost invariant = { λ m. (m.answers.items ≡ []) × (vec_len m.answers ≡ 0) × (m.measures.items ≡ []) × (vec_len m.measures ≡ 0) × (vec_capacity m.measures ≡ vec_capacity m.answers) };
 }
 
 impl Memory {
@@ -38,7 +41,7 @@ impl Memory {
     {
         Ok(Memory {
             answers: Vec::with_capacity(alloc, calls)?,
-            bench: Vec::with_capacity(alloc, calls)?,
+            measures: Vec::with_capacity(alloc, calls)?,
         })
     }
 }
@@ -46,6 +49,16 @@ impl Memory {
 // A row of more calls than its memory is for.
 #[derive(Clone, Copy, PartialEq, Eq, Debug)]
 pub struct NoRoom;
+
+impl fmt::Display for NoRoom {
+    ghost output = { λ _. Some no_room_text };
+
+    fn fmt<W: fmt::Write>(&self, f: &mut fmt::Formatter<W>) -> fmt::Result {
+        f.write_str("more calls than the memory is for")
+    }
+}
+
+impl Error for NoRoom {}
 
 // Runs a row of calls on a list that is just made: what each answers. A row that has no room in the memory is not begun.
 pub fn run<S: Source + Drop>(
@@ -59,17 +72,17 @@ pub fn run<S: Source + Drop>(
     ensures editions { IfOk result (λ v. SameInEditions limit (map (textual S.text) calls.items) v.items) }
     ensures joins { IfOk result (λ v. JoinsAdd (map (textual S.text) calls.items) v.items) }
 {
-    let Memory { answers, bench } = memory;
+    let Memory { answers, measures } = memory;
     let mut answers = answers;
     if calls.len() > answers.capacity() {
         return Err(NoRoom);
     }
-    let mut desk = Desk {
+    let mut state = RunState {
         list: PackingList::new(limit),
-        bench,
+        measures,
     };
     for call in calls {
-        answers.push_reserved(desk.serve(call));
+        answers.push_reserved(state.serve(call));
     }
     Ok(answers)
 }

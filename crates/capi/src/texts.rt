@@ -2,7 +2,7 @@
 ghost use Rattle.std.specs.Prelude.{◌≡◌};
 ghost use Rattle.kinds.specs.Measured.{measured};
 ghost use Rattle.packing.specs.Calls.{note_of, bound_of};
-ghost use Rattle.capi.specs.Exports.{told, note_on, bound_on, untold};
+ghost use Rattle.capi.specs.Exports.{figures_or_zeros, note_on, bound_on, without_text};
 ghost use Rattle.capi.specs.Next.{HoldsNextOfAny};
 
 use crate::answer::Answer;
@@ -12,7 +12,7 @@ use kinds::measure::measure;
 use sources::source::Source;
 
 pub fn measured<S: Source>(text: &mut S, figures: &mut Measure) -> Answer
-    ensures { (result, figures.new) ≡ told (measured (S.text text.old)) }
+    ensures { (result, figures.new) ≡ figures_or_zeros (measured (S.text text.old)) }
 {
     match measure(text) {
         Ok(closed) => {
@@ -28,7 +28,7 @@ pub fn measured<S: Source>(text: &mut S, figures: &mut Measure) -> Answer
 
 pub fn note<S: Source>(cells: &mut [Cell], pid: i32, text: &mut S) -> Answer
     ensures defined { (result, cells.new) ≡ note_on pid (S.text text.old) cells.old }
-    ensures holds { HoldsNextOfAny (λ l. untold (note_of pid (S.text text.old) l)) cells.old cells.new }
+    ensures holds { HoldsNextOfAny (λ l. without_text (note_of pid (S.text text.old) l)) cells.old cells.new }
 {
     let Some(mut list) = list_in(ANY_LIMIT, cells) else {
         return Answer::wrong_use();
@@ -39,7 +39,7 @@ pub fn note<S: Source>(cells: &mut [Cell], pid: i32, text: &mut S) -> Answer
 
 pub fn bound<S: Source>(cells: &mut [Cell], pid: i32, text: &mut S) -> Answer
     ensures defined { (result, cells.new) ≡ bound_on pid (S.text text.old) cells.old }
-    ensures holds { HoldsNextOfAny (λ l. untold (bound_of pid (S.text text.old) l)) cells.old cells.new }
+    ensures holds { HoldsNextOfAny (λ l. without_text (bound_of pid (S.text text.old) l)) cells.old cells.new }
 {
     let Some(mut list) = list_in(ANY_LIMIT, cells) else {
         return Answer::wrong_use();
