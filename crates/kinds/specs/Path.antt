@@ -12,7 +12,7 @@ use Rattle.sources.specs.declared.reason.Reason.TheVariants.{Torn}
 use Rattle.sources.specs.AsText.{as_text}
 use Rattle.sources.specs.Faults.{fault, as_fault, and_then, at_line}
 use Rattle.sources.specs.Number.{unsigned}
-use Rattle.sources.specs.Pieces.{case_of, up_to, strip_prefix, strip_suffix}
+use Rattle.sources.specs.Pieces.{bracketed, case_of, up_to, strip_prefix, strip_suffix}
 use Rattle.sources.specs.White.{trim, trim_start}
 use Rattle.kinds.specs.declared.path.MMapPath.{MMapPath}
 use Rattle.kinds.specs.declared.path.MMapPath.TheVariants as code
@@ -49,10 +49,6 @@ abbrev pub thread_of : List ℕ → Result Named Fault
 thread_of rest =
     and_then (ok_or (strip_suffix (codes "]") rest) (fault Torn)) (λ inner.
     and_then (as_fault (unsigned 32 Decimal (up_to 58 inner))) (λ n. Ok (tstack n)))
-
--- The name between square brackets.
-abbrev pub bracketed : List ℕ → Option (List ℕ)
-bracketed bs = case_of (strip_prefix (codes "[") bs) None (strip_suffix (codes "]"))
 
 -- Eight digits of base 16, as a signed number of 32 bits.
 abbrev pub eight : List ℕ → Option ℤ

@@ -1,11 +1,9 @@
 ghost use Rattle.std.specs.Prelude.{◌≡◌};
-ghost use Rattle.std.specs.Option.{option_map};
-ghost use Rattle.kinds.specs.Path.{bracketed as bracketed_of, eight as eight_of, file_of, segment_key, named_of, path_in, path_of, seen, seen_in, thread_of};
-ghost use Rattle.sources.specs.Pieces.{bytes_of};
+ghost use Rattle.kinds.specs.Path.{eight as eight_of, file_of, segment_key, named_of, path_in, path_of, seen, seen_in, thread_of};
 
 use sources::fault::{Fault, Refusal, at_line};
 use sources::number::{FromStrRadix, Radix};
-use sources::pieces::{strip_prefix, strip_suffix, trimmed, trimmed_start, up_to};
+use sources::pieces::{bracketed, strip_prefix, strip_suffix, trimmed, trimmed_start, up_to};
 use sources::reason::Reason;
 use sources::text::text;
 
@@ -32,13 +30,6 @@ fn read_thread(rest: &str) -> Result<MMapPath<'_>, Fault>
     let inner = strip_suffix(rest, "]").ok_or(Fault::new(Reason::Torn))?;
     let tid = FromStrRadix::from_str_radix(up_to(inner, ':'), Radix::Decimal)?;
     Ok(MMapPath::TStack(tid))
-}
-
-// The name between square brackets.
-fn bracketed(name: &str) -> Option<&str>
-    ensures { option_map bytes_of result ≡ bracketed_of name.now }
-{
-    strip_suffix(strip_prefix(name, "[")?, "]")
 }
 
 // Eight digits of base 16, as a signed number of 32 bits.

@@ -12,7 +12,8 @@ use Rattle.kinds.specs.Rows.Rows.{row_of}
 use Rattle.kinds.specs.Rows.Blocks.{blocks_of, rows_in, entries_after, body}
 use Rattle.kinds.specs.Rows.Placed.{name_in, bytes_at, NamesStand}
 use Rattle.kinds.proofs.RowLemmas.Walked.{Written}
-use Rattle.kinds.proofs.RowLemmas.Spelled.{named_at, path_spelled, map_path, up_to_first, trimmed_first, bracketed_sound}
+use Rattle.sources.proofs.Ends.{bracketed-sound}
+use Rattle.kinds.proofs.RowLemmas.Spelled.{named_at, path_spelled, map_path, up_to_first, trimmed_first}
 
 -- what stands between what is before it and behind it
 between : (a n z : List ℕ) (k : ℕ) → k ≡ length a → take (length n) (drop k (a ++ (n ++ z))) ≡ n
@@ -44,7 +45,7 @@ placed pre line post m name u h e k =
       | inr s ↦
           let t = trimmed_first (path_piece line) in
           let v : trim_start (path_piece line) ++ post ≡ 91 ∷ (name ++ ((93 ∷ t.0) ++ post)) =
-          ap (λ (l : List ℕ). l ++ post) (t.1 ∙ ap (λ (l : List ℕ). l ++ t.0) (bracketed_sound (trim (path_piece line)) name s.1))
+          ap (λ (l : List ℕ). l ++ post) (t.1 ∙ ap (λ (l : List ℕ). l ++ t.0) (bracketed-sound (trim (path_piece line)) name s.1))
           ∙ ap (λ (l : List ℕ). 91 ∷ (l ++ post)) (append_assoc name (93 ∷ []) t.0) ∙ ap (λ (l : List ℕ). 91 ∷ l) (append_assoc name (93 ∷ t.0) post) in
           let x : (pre ++ f.0) ++ (91 ∷ (name ++ ((93 ∷ t.0) ++ post))) ≡ ((pre ++ f.0) ++ (91 ∷ [])) ++ (name ++ ((93 ∷ t.0) ++ post)) = sym (append_assoc (pre ++ f.0) (91 ∷ []) _) in
           let y : further (further (length pre) (name_at line)) 1 ≡ length ((pre ++ f.0) ++ (91 ∷ [])) = omega (arith, g, w, length-append (pre ++ f.0) (91 ∷ [])) in

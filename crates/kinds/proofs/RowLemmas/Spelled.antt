@@ -1,20 +1,19 @@
 -- Where a mapping line has its name.
-use Rattle.std.proofs.Common.{◌≡◌, ℕ, suc, ◌+◌, ◌<◌, Bool, true, false, cond, eqb, eqb-true, ◌⊎◌, inl, inr, List, [], ◌∷◌, ◌++◌, reverse, length, drop, get_or, codes, Ok, Err, Some, None, IsUtf8, Option, Result, ℤ, refl, sym, ap, ◌∙◌, subst, arith, add-one, append_assoc, append-nil, length-append}
-use mathlib.Core.List.{reverse-append, reverse-reverse}
+use Rattle.std.proofs.Common.{◌≡◌, ℕ, suc, ◌+◌, ◌<◌, Bool, true, false, cond, ◌⊎◌, inl, inr, List, [], ◌∷◌, ◌++◌, length, drop, get_or, codes, Ok, Err, Some, None, IsUtf8, Option, Result, ℤ, refl, sym, ap, ◌∙◌, subst, arith, add-one, append_assoc, append-nil, length-append}
 use lib.Utf8.{encodes}
 use Rattle.std.specs.Char.{is_whitespace}
 use Rattle.std.specs.Str.{chars, bytes_eq}
-use Rattle.std.specs.Option.{option_map, ok_or}
+use Rattle.std.specs.Option.{ok_or}
 use Rattle.std.proofs.lemmas.Str.{IsUtf8-nil, IsUtf8-drop, IsCharBoundary-after_ascii, encodes-chars, encodes-append}
 use Rattle.sources.specs.declared.fault.Fault.{Fault}
 use Rattle.sources.specs.declared.reason.Reason.TheVariants.{Short}
 use Rattle.sources.specs.declared.number.Radix.TheVariants.{Decimal, Hexadecimal}
 use Rattle.sources.specs.Number.{unsigned, signed, two_of}
 use Rattle.sources.specs.Faults.{and_then, as_fault, fault}
-use Rattle.sources.specs.Pieces.{case_of, split_at_byte, strip_prefix, strip_suffix}
-use Rattle.sources.proofs.Ends.{strip_prefix-sound}
+use Rattle.sources.specs.Pieces.{bracketed, case_of, split_at_byte, strip_prefix, strip_suffix}
+use Rattle.sources.proofs.Cuts.{split_at_byte-sound}
 use Rattle.sources.specs.White.{trim, trim_start, trim_front, trim_back, keep}
-use Rattle.kinds.specs.Path.{Named, path, tstack, vsys, other, path_of, named_of, thread_of, bracketed, segment_key, file_of, heap, stack, vdso, vvar, vsyscall, rollup, anonymous}
+use Rattle.kinds.specs.Path.{Named, path, tstack, vsys, other, path_of, named_of, thread_of, segment_key, file_of, heap, stack, vdso, vvar, vsyscall, rollup, anonymous}
 use Rattle.kinds.specs.Mapping.{Mapping, mapping_of, piece}
 use Rattle.kinds.specs.Rows.Paths.{after_space, path_piece, name_at}
 use Rattle.kinds.specs.Rows.Placed.{name_in}
@@ -26,21 +25,6 @@ pub record Ends (s l : List ℕ) : Type 0 where
 
 ends_on : (s m l : List ℕ) → Ends s m → Ends m l → Ends s l
 ends_on s m l p q = record { front = q.front ++ p.front; is = q.is ∙ ap (λ (x : List ℕ). q.front ++ x) p.is ∙ sym (append_assoc q.front p.front s) }
-
-split_at_byte-sound : (c : ℕ) (bs : List ℕ) (p : List ℕ × List ℕ) → split_at_byte c bs ≡ Some p → bs ≡ p.0 ++ (c ∷ p.1)
-split_at_byte-sound c [] p e = absurd (let z = e in cc)
-split_at_byte-sound c (x ∷ xs) p e = at (eqb x c) refl (split_at_byte c xs) (λ q. split_at_byte-sound c xs q) e
-  where
-    at : (b : Bool) → eqb x c ≡ b → (o : Option (List ℕ × List ℕ)) → ((q : List ℕ × List ℕ) → o ≡ Some q → xs ≡ q.0 ++ (c ∷ q.1)) →
-        cond b (Some ([], xs)) (option_map (λ q. (x ∷ q.0, q.1)) o) ≡ Some p → x ∷ xs ≡ p.0 ++ (c ∷ p.1)
-    at true t o ih e =
-        let z : ◌≡◌ {A = List ℕ × List ℕ} ([], xs) p = cc in
-        let k = eqb-true x c t in
-        rw (sym z) (ap (λ (y : ℕ). y ∷ xs) k)
-    at false t None ih e = absurd (let z = e in cc)
-    at false t (Some q) ih e =
-        let z : ◌≡◌ {A = List ℕ × List ℕ} (x ∷ q.0, q.1) p = cc in
-        rw (sym z) (ap (λ (l : List ℕ). x ∷ l) (ih q refl))
 
 -- what stands behind a space
 behind : (xs ys : List ℕ) (c : ℕ) → drop (suc (length xs)) (xs ++ (c ∷ ys)) ≡ ys
@@ -68,7 +52,7 @@ left_behind bs u = at (split_at_byte 32 bs) refl
     at : (o : Option (List ℕ × List ℕ)) → split_at_byte 32 bs ≡ o → Left (case_of o [] (λ p. p.1)) bs
     at None e = record { text = IsUtf8-nil; ends = record { front = bs; is = sym (append-nil bs) } }
     at (Some p) e =
-        let k = split_at_byte-sound 32 bs p e in
+        let k = split_at_byte-sound 32 bs p.0 p.1 e in
         record { text = utf8_behind p.0 p.1 (subst IsUtf8 k u); ends = record { front = p.0 ++ (32 ∷ []); is = k ∙ sym (append_assoc p.0 (32 ∷ []) p.1) } }
 
 left_on : (s l : List ℕ) → Left s l → Left (after_space s) l
@@ -121,24 +105,7 @@ up_to_first c bs = at (split_at_byte c bs) refl
   where
     at : (o : Option (List ℕ × List ℕ)) → split_at_byte c bs ≡ o → (z : List ℕ) × (bs ≡ case_of o bs (λ p. p.0) ++ z)
     at None e = ([], sym (append-nil bs))
-    at (Some p) e = (c ∷ p.1, split_at_byte-sound c bs p e)
-
-strip_suffix-sound : (p bs r : List ℕ) → strip_suffix p bs ≡ Some r → bs ≡ r ++ p
-strip_suffix-sound p bs r e = at (strip_prefix (reverse p) (reverse bs)) refl e
-  where
-    at : (o : Option (List ℕ)) → strip_prefix (reverse p) (reverse bs) ≡ o → option_map reverse o ≡ Some r → bs ≡ r ++ p
-    at None q e = absurd (let z = e in cc)
-    at (Some k) q e =
-        let z : reverse k ≡ r = cc in
-        let h = strip_prefix-sound (reverse p) (reverse bs) k q in
-        sym (reverse-reverse bs) ∙ ap reverse h ∙ reverse-append (reverse p) k ∙ rw (reverse-reverse p, z)
-
-pub bracketed_sound : (bs n : List ℕ) → bracketed bs ≡ Some n → bs ≡ 91 ∷ (n ++ (93 ∷ []))
-bracketed_sound bs n e = at (strip_prefix (codes "[") bs) refl e
-  where
-    at : (o : Option (List ℕ)) → strip_prefix (codes "[") bs ≡ o → case_of o None (strip_suffix (codes "]")) ≡ Some n → bs ≡ 91 ∷ (n ++ (93 ∷ []))
-    at None q e = absurd (let z = e in cc)
-    at (Some r) q e = strip_prefix-sound (codes "[") bs r q ∙ ap (λ (l : List ℕ). 91 ∷ l) (strip_suffix-sound (codes "]") r n e)
+    at (Some p) e = (c ∷ p.1, split_at_byte-sound c bs p.0 p.1 e)
 
 -- a path with a name is a file's or stands between brackets
 abbrev pub Spelled : List ℕ → Named → List ℕ → Type 0
