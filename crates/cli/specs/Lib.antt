@@ -1,0 +1,5 @@
+pub mod Escaped
+pub mod Pulled
+pub mod Refused
+pub mod Size
+pub mod TextFile
