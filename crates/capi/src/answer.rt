@@ -3,8 +3,8 @@ ghost use Rattle.capi.specs.Answers.{accepted, wrong_use, answer_of};
 
 use sources::fault::Refusal;
 
-// What a call answers: number 0, a refusal's number with its line and field, or 255 for wrong use.
-// Numbers stand for refusals, since C is handed no enum.
+/// What a call answers: number 0, a refusal's number with its line and field, or 255 for wrong use.
+/// Numbers stand for refusals, since C is handed no enum.
 #[repr(C)]
 #[derive(Clone, Copy)]
 pub struct Answer {
@@ -14,6 +14,7 @@ pub struct Answer {
 }
 
 impl Answer {
+    /// What an accepted call answers.
     pub fn accepted() -> Answer
         ensures { result ≡ accepted }
     {
@@ -24,7 +25,7 @@ impl Answer {
         }
     }
 
-    // Of cells that hold no list, of a form that is none.
+    /// Of cells that hold no list, of a form that is none.
     pub fn wrong_use() -> Answer
         ensures { result ≡ wrong_use }
     {
@@ -35,6 +36,7 @@ impl Answer {
         }
     }
 
+    /// What a refusal is over the boundary.
     pub fn of(refusal: Refusal) -> Answer
         ensures { result ≡ answer_of refusal }
     {

@@ -6,7 +6,7 @@ use kinds::measure::{Closed, Figures};
 use limits::limit::LimitValue;
 use packing::place::{Bounds, Noted, Place};
 
-// The figures of a measure.
+/// The figures of a measure.
 #[repr(C)]
 #[derive(Clone, Copy)]
 pub struct Measure {
@@ -16,8 +16,8 @@ pub struct Measure {
     pub swap_pss: u64,
 }
 
-// One place of a list. With pid 0 it is free, and nothing else of it is looked at.
-// Where `noted` is not 0, state, threads and vmrss are what note kept; where `bounded` is not 0, the limits are what bound kept.
+/// One place of a list. With pid 0 it is free, and nothing else of it is looked at.
+/// Where `noted` is not 0, state, threads and vmrss are what note kept; where `bounded` is not 0, the limits are what bound kept.
 #[repr(C)]
 #[derive(Clone, Copy)]
 pub struct Cell {
@@ -40,6 +40,7 @@ pub struct Cell {
 }
 
 impl Measure {
+    /// No figures, as refusals leave them.
     pub fn zeros() -> Measure
         ensures { result ≡ no_figures }
     {
@@ -51,6 +52,7 @@ impl Measure {
         }
     }
 
+    /// The figures of a measure.
     pub fn of(closed: &Closed) -> Measure
         ensures { result ≡ figures_of closed.now }
     {
@@ -63,6 +65,7 @@ impl Measure {
         }
     }
 
+    /// The measure that has these figures: who hands them in answers for it that they were measured.
     pub fn closed(&self) -> Closed
         ensures { result ≡ closed_in self.now }
     {
@@ -118,6 +121,7 @@ fn value_or_zero(limit: LimitValue) -> u64
 }
 
 impl Cell {
+    /// The cell of a free place.
     pub fn free() -> Cell
         ensures { result ≡ free_cell }
     {
@@ -175,7 +179,7 @@ impl Cell {
         })
     }
 
-    // What stands here.
+    /// What stands here.
     pub fn place(&self) -> Option<Place>
         ensures { result ≡ place_in self.now }
     {
@@ -196,7 +200,7 @@ impl Cell {
         })
     }
 
-    // The cell of a job; what is absent is written as zeros.
+    /// The cell of a job; what is absent is written as zeros.
     pub fn of_job(job: &Place) -> Cell
         ensures { result ≡ cell_of_job job.now }
     {
@@ -229,6 +233,7 @@ impl Cell {
         }
     }
 
+    /// The cell of a place.
     pub fn of(place: &Option<Place>) -> Cell
         ensures { result ≡ cell_of place.now }
     {

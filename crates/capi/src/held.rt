@@ -10,7 +10,7 @@ use packing::list::{PackingList, ROOM};
 use packing::place::Place;
 use sources::fault::Refusal;
 
-// No call but admit looks at the limit.
+/// No call but admit looks at the limit.
 pub const ANY_LIMIT: u64 = 0;
 
 fn places_in(cells: [Cell; ROOM]) -> [Option<Place>; ROOM]
@@ -25,7 +25,7 @@ fn cells_of(places: [Option<Place>; ROOM]) -> [Cell; ROOM]
     places.map(|place| Cell::of(&place))
 }
 
-// The list of a limit that cells hold, if they hold one; that there are 64 then is said for callers, which write as many.
+/// The list of a limit that cells hold, if they hold one; that there are 64 then is said for callers, which write as many.
 #[tactic(auto, unfolding(crate::specs::Cells::list_in))]
 pub fn list_in(limit: u64, cells: &[Cell]) -> Option<PackingList>
     ensures list { result ≡ list_in limit cells.now }
@@ -35,7 +35,7 @@ pub fn list_in(limit: u64, cells: &[Cell]) -> Option<PackingList>
     PackingList::restored(limit, places_in(cells))
 }
 
-// What a call leaves in the cells: the list afterwards, where the call was accepted.
+/// What a call leaves in the cells: the list afterwards, where the call was accepted.
 pub fn leave(called: Result<(), Refusal>, list: &PackingList, cells: &mut [Cell]) -> Answer
     requires { length cells.old ≡ 64 }
     ensures left { (result, cells.new) ≡ left_by (called, list.now) cells.old }

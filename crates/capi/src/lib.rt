@@ -1,5 +1,5 @@
-// What C and Rust programs call.
-// Numbers, slices and structs of numbers cross alone. A list lies in the caller's memory, 64 cells; it is read and judged in each call, and written back where the call is accepted.
+//! What C and Rust programs call.
+//! Numbers, slices and structs of numbers cross alone. A list lies in the caller's memory, 64 cells; it is read and judged in each call, and written back where the call is accepted.
 #![tactic(auto)]
 
 ghost use Rattle.std.specs.Prelude.{◌≡◌, ℕ, Some, length};
@@ -26,7 +26,7 @@ use part::{PLAIN, join};
 use sources::held::Held;
 use word::word;
 
-// Measures smaps text.
+/// Measures smaps text.
 #[tactic(auto, using(crate::proofs::TextCalls::alone))]
 #[unsafe(no_mangle)]
 pub extern "C" fn jomukahu_measure(
@@ -51,7 +51,7 @@ pub extern "C" fn jomukahu_measure(
     }
 }
 
-// A list that no job is in.
+/// A list that no job is in.
 #[tactic(auto, using(crate::proofs::Back::holds_none))]
 #[unsafe(no_mangle)]
 pub extern "C" fn jomukahu_new(places: &mut [Cell]) -> Answer
@@ -65,7 +65,7 @@ pub extern "C" fn jomukahu_new(places: &mut [Cell]) -> Answer
     Answer::accepted()
 }
 
-// The sum of the charges.
+/// The sum of the charges.
 #[unsafe(no_mangle)]
 pub extern "C" fn jomukahu_used(places: &[Cell], used: &mut u64) -> Answer
     ensures { (result, used.new) ≡ used_in places.now }
@@ -78,7 +78,7 @@ pub extern "C" fn jomukahu_used(places: &[Cell], used: &mut u64) -> Answer
     Answer::accepted()
 }
 
-// Takes a job in, charged for a measure and its headroom.
+/// Takes a job in, charged for a measure and its headroom.
 #[unsafe(no_mangle)]
 pub extern "C" fn jomukahu_admit(
     limit: u64,
@@ -97,7 +97,7 @@ pub extern "C" fn jomukahu_admit(
     leave(called.map_err(|(refusal, _)| refusal), &list, places)
 }
 
-// Charges a job anew.
+/// Charges a job anew.
 #[unsafe(no_mangle)]
 pub extern "C" fn jomukahu_remeasure(places: &mut [Cell], pid: i32, figures: &Measure) -> Answer
     ensures defined { (result, places.new) ≡ remeasure_in pid figures.now places.old }
@@ -110,7 +110,7 @@ pub extern "C" fn jomukahu_remeasure(places: &mut [Cell], pid: i32, figures: &Me
     leave(called.map_err(|(refusal, _)| refusal), &list, places)
 }
 
-// Keeps what a status text of a job tells.
+/// Keeps what a status text of a job tells.
 #[unsafe(no_mangle)]
 pub extern "C" fn jomukahu_note(
     places: &mut [Cell],
@@ -129,7 +129,7 @@ pub extern "C" fn jomukahu_note(
     }
 }
 
-// Keeps what a limits text of a job tells.
+/// Keeps what a limits text of a job tells.
 #[unsafe(no_mangle)]
 pub extern "C" fn jomukahu_bound(
     places: &mut [Cell],
@@ -148,7 +148,7 @@ pub extern "C" fn jomukahu_bound(
     }
 }
 
-// Frees the place of a job.
+/// Frees the place of a job.
 #[unsafe(no_mangle)]
 pub extern "C" fn jomukahu_release(places: &mut [Cell], pid: i32) -> Answer
     ensures defined { (result, places.new) ≡ release_in pid places.old }
@@ -161,7 +161,7 @@ pub extern "C" fn jomukahu_release(places: &mut [Cell], pid: i32) -> Answer
     leave(called, &list, places)
 }
 
-// What is kept of a job, and what it is charged.
+/// What is kept of a job, and what it is charged.
 #[unsafe(no_mangle)]
 pub extern "C" fn jomukahu_look(
     places: &[Cell],
@@ -193,7 +193,7 @@ pub extern "C" fn jomukahu_look(
     }
 }
 
-// Writes the word of a refusal's number, as much of it as there is room for, and tells how long it is: 0 for a number that is no refusal's.
+/// Writes the word of a refusal's number, as much of it as there is room for, and tells how long it is: 0 for a number that is no refusal's.
 #[unsafe(no_mangle)]
 pub extern "C" fn jomukahu_word(number: u32, letters: &mut [u8]) -> usize
     ensures length { result ≡ length (word_in number) }

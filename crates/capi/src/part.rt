@@ -7,7 +7,7 @@ use sources::input::{Form, Input};
 use sources::join::Join;
 use sources::source::Source;
 
-// The number of bytes as they stand; 2 is that of a recording.
+/// The number of bytes as they stand; 2 is that of a recording.
 pub const PLAIN: u32 = 1;
 
 fn form(number: u32) -> Option<Form>
@@ -20,7 +20,7 @@ fn form(number: u32) -> Option<Form>
     }
 }
 
-// The join of both parts, or what is to be answered.
+/// The join of both parts, or what is to be answered.
 pub fn join<'a>(
     first_form: u32,
     first: &'a [u8],

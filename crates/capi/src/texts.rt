@@ -11,6 +11,7 @@ use crate::held::{ANY_LIMIT, leave, list_in};
 use kinds::measure::measure;
 use sources::source::Source;
 
+/// Measures a text, and writes its figures or zeros.
 pub fn measured<S: Source>(text: &mut S, figures: &mut Measure) -> Answer
     ensures { (result, figures.new) ≡ figures_or_zeros (measured (S.text text.old)) }
 {
@@ -26,6 +27,7 @@ pub fn measured<S: Source>(text: &mut S, figures: &mut Measure) -> Answer
     }
 }
 
+/// Notes the status text of a job on the list that cells hold.
 pub fn note<S: Source>(cells: &mut [Cell], pid: i32, text: &mut S) -> Answer
     ensures defined { (result, cells.new) ≡ note_on pid (S.text text.old) cells.old }
     ensures holds { HoldsNextOfAny (λ l. without_text (note_of pid (S.text text.old) l)) cells.old cells.new }
@@ -37,6 +39,7 @@ pub fn note<S: Source>(cells: &mut [Cell], pid: i32, text: &mut S) -> Answer
     leave(called, &list, cells)
 }
 
+/// Keeps the limits text of a job on the list that cells hold.
 pub fn bound<S: Source>(cells: &mut [Cell], pid: i32, text: &mut S) -> Answer
     ensures defined { (result, cells.new) ≡ bound_on pid (S.text text.old) cells.old }
     ensures holds { HoldsNextOfAny (λ l. without_text (bound_of pid (S.text text.old) l)) cells.old cells.new }

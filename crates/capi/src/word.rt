@@ -38,7 +38,7 @@ fn reason(number: u32) -> Option<Reason>
         .copied()
 }
 
-// The word of a refusal's number, or no letters.
+/// The word of a refusal's number, or no letters.
 #[tactic(auto, unfolding(crate::specs::Words::word_in))]
 pub fn word(number: u32) -> &'static str
     ensures { result.now ≡ word_in number }

@@ -12,15 +12,15 @@ fn front<T>(items: &[T], n: usize) -> &[T]
     items.get(..n).unwrap_or(items)
 }
 
-// A list of at most N items: the first `len` cells count, and the others are blank. The libraries allocate nothing, so it is a table with a count, which is `Copy`, and no `Vec`.
-// No ghost field bounds `len`, since definitions make such lists too.
+/// A list of at most N items: the first `len` cells count, and the others are blank. The libraries allocate nothing, so it is a table with a count, which is `Copy`, and no `Vec`.
+/// No ghost field bounds `len`, since definitions make such lists too.
 #[derive(Clone, Copy)]
 pub struct Counted<T, const N: usize> {
     pub cells: [T; N],
     pub len: usize,
 }
 
-// The bytes of a text, which fit where the line that it stands on does.
+/// The bytes of a text, which fit where the line that it stands on does.
 pub type Text = Counted<u8, 4096>;
 
 // The empty list.
@@ -36,7 +36,7 @@ impl<T: Default + Copy, const N: usize> Default for Counted<T, N> {
 }
 
 impl<T: Copy, const N: usize> Counted<T, N> {
-    // The cells that count.
+    /// The cells that count.
     pub fn items(&self) -> &[T]
         ensures { result.now ≡ take self.now.len self.now.cells }
     {
@@ -57,7 +57,7 @@ impl<T: Copy, const N: usize> Counted<T, N> {
     }
 }
 
-// Puts the first 4096 bytes of a text into a slot, where they stand.
+/// Puts the first 4096 bytes of a text into a slot, where they stand.
 pub fn put_text(slot: &mut Slot<Text>, text: &str)
     ensures { slot.new ≡ Some (Ok (kept_text text.now)) }
 {

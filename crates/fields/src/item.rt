@@ -9,7 +9,7 @@ use sources::number::{FromStrRadix, Radix};
 use sources::pieces::{split_once, up_to};
 use std::marker::PhantomData;
 
-// What an item of a list means: a value, or a fault, for each piece of text. A type and no closure, so that contracts name its meaning.
+/// What an item of a list means: a value, or a fault, for each piece of text. A type and no closure, so that contracts name its meaning.
 pub trait Item {
     type Value: Copy + Default;
 
@@ -19,13 +19,14 @@ pub trait Item {
         ensures { result ≡ reading piece.now };
 }
 
-// A base of numbers, as a type, since a const parameter is a number or a `bool`.
+/// A base of numbers, as a type, since a const parameter is a number or a `bool`.
 pub trait Base {
     ghost RADIX: { RadixOf };
 
     const RADIX: Radix;
 }
 
+/// Base 10.
 pub struct Decimal;
 
 impl Base for Decimal {
@@ -34,6 +35,7 @@ impl Base for Decimal {
     const RADIX: Radix = Radix::Decimal;
 }
 
+/// Base 16.
 pub struct Hexadecimal;
 
 impl Base for Hexadecimal {
@@ -42,7 +44,7 @@ impl Base for Hexadecimal {
     const RADIX: Radix = Radix::Hexadecimal;
 }
 
-// A number in a base.
+/// A number in a base.
 pub struct Figure<T, B>(PhantomData<(T, B)>);
 
 impl<T: FromStrRadix + Copy + Default, B: Base> Item for Figure<T, B> {
@@ -55,16 +57,16 @@ impl<T: FromStrRadix + Copy + Default, B: Base> Item for Figure<T, B> {
     }
 }
 
-// A group.
+/// A group.
 pub type Group = Figure<u32, Decimal>;
 
-// A process in a name space.
+/// A process in a name space.
 pub type Process = Figure<i32, Decimal>;
 
-// 32 bits of a mask.
+/// 32 bits of a mask.
 pub type Word = Figure<u32, Hexadecimal>;
 
-// A range, from its first number to its last.
+/// A range, from its first number to its last.
 pub struct Range;
 
 impl Item for Range {

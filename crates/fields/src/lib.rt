@@ -1,4 +1,4 @@
-// How the text of a field is read: single figures, lists of items, and what a line leaves for the closing to judge.
+//! How the text of a field is read: single figures, lists of items, and what a line leaves for the closing to judge.
 #![tactic(auto)]
 
 pub mod counted;

@@ -15,7 +15,7 @@ use std::error::Error;
 use std::fmt;
 use std::fmt::{Display, Formatter};
 
-// What is wrong with a list: an item that can't be read, or one more than there is room for.
+/// What is wrong with a list: an item that can't be read, or one more than there is room for.
 #[derive(Clone, Copy, PartialEq, Eq, Debug)]
 pub enum ListFault {
     Bad,

@@ -5,24 +5,24 @@ ghost use Rattle.fields.specs.Slots.{at_field, needed as needed_of, optional as 
 use sources::fault::Fault;
 use sources::reason::Reason;
 
-// What the last line of a field's name left: nothing, a value, or what is wrong with it.
+/// What the last line of a field's name left: nothing, a value, or what is wrong with it.
 pub type Slot<T> = Option<Result<T, Fault>>;
 
-// A fault gains the number of its field.
+/// A fault gains the number of its field.
 pub fn at_field<T>(field: u32, r: Result<T, Fault>) -> Result<T, Fault>
     ensures { result ≡ at_field field r }
 {
     r.map_err(|f| Fault { field, ..f })
 }
 
-// A field that may not be missing.
+/// A field that may not be missing.
 pub fn needed<T>(field: u32, slot: Slot<T>) -> Result<T, Fault>
     ensures { result ≡ needed_of field slot }
 {
     at_field(field, slot.ok_or(Fault::new(Reason::Absent)).flatten())
 }
 
-// Sets a field that may not be missing.
+/// Sets a field that may not be missing.
 pub fn set_needed<T: Copy>(field: u32, slot: &Slot<T>, place: &mut T) -> Result<(), Fault>
     ensures { result_and result (Ok place.new) ≡ needed_of field slot.now }
 {
@@ -36,7 +36,7 @@ pub fn set_needed<T: Copy>(field: u32, slot: &Slot<T>, place: &mut T) -> Result<
     }
 }
 
-// Sets a field that may be missing.
+/// Sets a field that may be missing.
 pub fn set_optional<T: Copy + Default + Drop>(
     field: u32,
     slot: &Slot<T>,
@@ -56,7 +56,7 @@ pub fn set_optional<T: Copy + Default + Drop>(
     Ok(())
 }
 
-// Sets a field that may be missing, or be there and count as missing.
+/// Sets a field that may be missing, or be there and count as missing.
 pub fn set_lenient<T: Copy + Default + Drop>(
     field: u32,
     slot: &Slot<Option<T>>,

@@ -7,7 +7,7 @@ ghost use Rattle.fields.specs.Slots.{answered, kept, after_entry};
 use sources::fault::Fault;
 use sources::kind::Break;
 
-// The slots of a record, one for each of its fields: lines fill them, and closing judges them in the order of the fields.
+/// The slots of a record, one for each of its fields: lines fill them, and closing judges them in the order of the fields.
 pub trait Slots: Sized {
     type Record;
 

@@ -15,21 +15,21 @@ use sources::number::{FromStrRadix, Radix, split_into_num};
 use sources::pieces::{Split, strip_suffix};
 use sources::reason::Reason;
 
-// A number.
+/// A number.
 pub fn figure<T: FromStrRadix>(text: &str, radix: Radix) -> Result<T, Fault>
     ensures { result ≡ as_fault (T.FromStrRadix.reading radix text.now) }
 {
     Ok(T::from_str_radix(text, radix)?)
 }
 
-// A figure in kB, kept as it is.
+/// A figure in kB, kept as it is.
 pub fn kilobytes(text: &str) -> Result<u64, Fault>
     ensures { result ≡ kilobytes_of text.now }
 {
     figure(strip_suffix(text, " kB").unwrap_or(text), Radix::Decimal)
 }
 
-// The four numbers of a process's owner, or what is wrong with each.
+/// The four numbers of a process's owner, or what is wrong with each.
 #[derive(Clone, Copy)]
 pub struct Four {
     pub real: Result<u32, Fault>,
@@ -45,7 +45,7 @@ fn read_word(word: Option<&str>) -> Result<u32, Fault>
     figure(word.ok_or(Fault::new(Reason::Short))?, Radix::Decimal)
 }
 
-// The first four words, each judged by itself.
+/// The first four words, each judged by itself.
 pub fn read_four(text: &str) -> Four
     ensures { result ≡ four_of text.now }
 {
@@ -62,7 +62,7 @@ pub fn read_four(text: &str) -> Four
     }
 }
 
-// Two numbers with a slash between them.
+/// Two numbers with a slash between them.
 pub fn pair(text: &str) -> Result<(u64, u64), Fault>
     ensures { result ≡ pair_of text.now }
 {
@@ -83,28 +83,28 @@ fn put_commas<I: Item, const N: usize>(slot: &mut Slot<Counted<I::Value, N>>, te
     put_list::<I, _, N>(slot, Split::new(text, ','));
 }
 
-// Puts the groups of a process into a slot.
+/// Puts the groups of a process into a slot.
 pub fn put_groups(slot: &mut Slot<Counted<u32, 128>>, text: &str)
     ensures { slot.new ≡ Some (groups_of text.now) }
 {
     put_words::<Group, 128>(slot, text);
 }
 
-// Puts a process in each of its name spaces into a slot.
+/// Puts a process in each of its name spaces into a slot.
 pub fn put_spaces(slot: &mut Slot<Counted<i32, 32>>, text: &str)
     ensures { slot.new ≡ Some (spaces_of text.now) }
 {
     put_words::<Process, 32>(slot, text);
 }
 
-// Puts the words of a mask into a slot.
+/// Puts the words of a mask into a slot.
 pub fn put_mask(slot: &mut Slot<Counted<u32, 256>>, text: &str)
     ensures { slot.new ≡ Some (mask_of text.now) }
 {
     put_commas::<Word, 256>(slot, text);
 }
 
-// Puts ranges into a slot, where they stand. A bad range makes the list count as missing.
+/// Puts ranges into a slot, where they stand. A bad range makes the list count as missing.
 pub fn put_ranges(slot: &mut Slot<Option<Counted<(u32, u32), 128>>>, text: &str)
     ensures { slot.new ≡ Some (ranges_of text.now) }
 {
@@ -118,7 +118,7 @@ pub fn put_ranges(slot: &mut Slot<Option<Counted<(u32, u32), 128>>>, text: &str)
     }
 }
 
-// Whether the value is 1.
+/// Whether the value is 1.
 pub fn flag(text: &str) -> bool
     ensures { result ≡ flag_of text.now }
 {

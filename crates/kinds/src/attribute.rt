@@ -7,7 +7,7 @@ use sources::pieces::strip_suffix;
 use sources::reason::Reason;
 use sources::words::{has_word, next_word};
 
-// What an attribute's line says of its mapping.
+/// What an attribute's line says of its mapping.
 #[derive(Clone, Copy, PartialEq, Eq, Debug)]
 pub struct Attribute<'a> {
     pub key: &'a str,
@@ -43,7 +43,7 @@ fn scaled(n: u64, unit: bool) -> Result<u64, Fault>
 }
 
 impl<'a> Attribute<'a> {
-    // What the line says, if it has two words.
+    /// What the line says, if it has two words.
     pub fn from_line(line: &'a str) -> Result<Option<Attribute<'a>>, Fault>
         ensures { seen_entry result ≡ entry_of line.now }
     {

@@ -1,4 +1,4 @@
-// The kernel's texts, a kind each.
+//! The kernel's texts, a kind each.
 #![tactic(auto)]
 
 pub mod attribute;

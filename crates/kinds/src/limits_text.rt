@@ -7,7 +7,7 @@ use limits::slots::LimitsSlots;
 use sources::fault::Refusal;
 use sources::source::Source;
 
-// Reads the limits text of a source into a record, which is blank after a refusal. A break is the end of the text.
+/// Reads the limits text of a source into a record, which is blank after a refusal. A break is the end of the text.
 pub fn read_limits<S: Source>(source: &mut S, limits: &mut Limits) -> Result<(), Refusal>
     ensures defined { (result, limits.new, S.text source.new) ≡ limits_of (S.text source.old) }
     ensures lines { LimitsByLastLines (S.text source.old) result limits.new }

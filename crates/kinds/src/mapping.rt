@@ -8,7 +8,7 @@ use sources::number::{FromStrRadix, Radix, split_into_num};
 use sources::pieces::split_once;
 use sources::reason::Reason;
 
-// One mapping, as its line says it.
+/// One mapping, as its line says it.
 #[derive(Clone, Copy, PartialEq, Eq, Debug)]
 pub struct MemoryMap<'a> {
     pub address: (u64, u64),
@@ -27,7 +27,7 @@ fn piece(text: &str) -> Result<(&str, &str), Fault>
 }
 
 impl<'a> MemoryMap<'a> {
-    // The name is procfs-core's.
+    /// The name is procfs-core's.
     pub fn from_line(line: &'a str) -> Result<MemoryMap<'a>, Fault>
         ensures { seen_map result ≡ mapping_of line.now }
     {

@@ -17,10 +17,10 @@ use sources::reason::Reason;
 use sources::source::Source;
 use sources::spool::Spool;
 
-// The most that one total may be, and the most that the packing list charges a job: 2 to the 56th. Here it is passed on as `cap`: the sums and their laws are those of any cap, and name no number.
+/// The most that one total may be, and the most that the packing list charges a job: 2 to the 56th. Here it is passed on as `cap`: the sums and their laws are those of any cap, and name no number.
 pub const CAP: u64 = 72057594037927936;
 
-// One figure for each of the keys, in bytes.
+/// One figure for each of the keys, in bytes.
 #[derive(Clone, Copy, PartialEq, Eq, Debug, Default)]
 pub struct Figures {
     pub rss: u64,
@@ -28,7 +28,7 @@ pub struct Figures {
     pub swap_pss: u64,
 }
 
-// The mappings so far: how many there are with the open one, the totals of those that are closed, and the figures of the open one.
+/// The mappings so far: how many there are with the open one, the totals of those that are closed, and the figures of the open one.
 #[derive(Clone, Copy, Default)]
 pub struct Tally {
     mappings: u32,
@@ -36,7 +36,7 @@ pub struct Tally {
     last: Figures,
 }
 
-// Where an open measure stands: an enum of its own and no Result, since a measure matches it together with the sort of line that arrives.
+/// Where an open measure stands: an enum of its own and no Result, since a measure matches it together with the sort of line that arrives.
 #[derive(Clone, Copy)]
 pub enum State {
     NoMapping,
@@ -44,13 +44,13 @@ pub enum State {
     Refused(Fault),
 }
 
-// A measure that takes lines.
+/// A measure that takes lines.
 #[derive(Drop)]
 pub struct Open {
     state: State,
 }
 
-// A measure that is done. It is made by closing an open one, or of figures that were one, and can't be copied.
+/// A measure that is done. It is made by closing an open one, or of figures that were one, and can't be copied.
 #[derive(Drop)]
 pub struct Closed {
     mappings: u32,
@@ -58,19 +58,21 @@ pub struct Closed {
 }
 
 impl Closed {
-    // For a boundary over which measures are handed as figures: who calls it answers for it that they were measured.
+    /// For a boundary over which measures are handed as figures: who calls it answers for it that they were measured.
     pub fn from_figures(mappings: u32, totals: Figures) -> Closed
         ensures { result ≡ closed_of mappings totals }
     {
         Closed { mappings, totals }
     }
 
+    /// How many mappings the text has.
     pub fn mappings(&self) -> u32
         ensures { result ≡ self.now.mappings }
     {
         self.mappings
     }
 
+    /// The sums over its mappings, in bytes.
     pub fn totals(&self) -> Figures
         ensures { result ≡ self.now.totals }
     {
@@ -168,7 +170,7 @@ fn step(state: &mut State, sort: Sort, cap: u64) -> Result<(), Fault>
 }
 
 impl Open {
-    // By name, and no Default: its contract is the meaning before any line.
+    /// By name, and no Default: its contract is the meaning before any line.
     pub fn new() -> Open
         ensures { result.state ≡ fresh }
     {
@@ -225,7 +227,7 @@ impl Close for Open {
     }
 }
 
-// Measures the smaps text of a source.
+/// Measures the smaps text of a source.
 pub fn measure<S: Source>(source: &mut S) -> Result<Closed, Refusal>
     ensures defined { (result, S.text source.new) ≡ reading measure_rules fresh (S.text source.old) }
     ensures sums { Measures (S.text source.old) result }
@@ -235,7 +237,7 @@ pub fn measure<S: Source>(source: &mut S) -> Result<Closed, Refusal>
     read(source, Open::new())
 }
 
-// Measures the smaps text of a recording.
+/// Measures the smaps text of a recording.
 pub fn measure_recording(recording: &[u8]) -> Result<Closed, Refusal>
     ensures { result ≡ recording_of recording.now }
 {
@@ -243,7 +245,7 @@ pub fn measure_recording(recording: &[u8]) -> Result<Closed, Refusal>
     measure(&mut spool)
 }
 
-// Measures the smaps text of two sources, one after the other.
+/// Measures the smaps text of two sources, one after the other.
 pub fn measure_joined<A: Source + Drop, B: Source + Drop>(
     first: A,
     second: B,

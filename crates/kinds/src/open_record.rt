@@ -14,13 +14,14 @@ use sources::fault::{Fault, Refusal, at_line};
 use sources::kind::{Break, Kind};
 use sources::source::Source;
 
-// Slots that lines fill, or the fault of a line that was refused: the kind of every text of fields.
+/// Slots that lines fill, or the fault of a line that was refused: the kind of every text of fields.
 #[derive(Drop)]
 pub struct OpenRecord<S> {
     state: Result<S, Fault>,
 }
 
 impl<S: Slots> OpenRecord<S> {
+    /// A record that has taken no line yet.
     pub fn new(slots: S) -> OpenRecord<S>
         ensures { result.state ≡ Ok slots }
     {
@@ -116,7 +117,7 @@ where
     Ok(())
 }
 
-// The same, with what it comes to.
+/// The same, with what it comes to.
 pub fn read_record<T: Source, S: Slots + Drop>(
     source: &mut T,
     record: &mut S::Record,

@@ -7,7 +7,7 @@ use sources::pieces::{bracketed, strip_prefix, strip_suffix, trimmed, trimmed_st
 use sources::reason::Reason;
 use sources::text::text;
 
-// What a mapping is of, as the last piece of its line says it.
+/// What a mapping is of, as the last piece of its line says it.
 #[derive(Clone, Copy, PartialEq, Eq, Debug)]
 pub enum MMapPath<'a> {
     Path(&'a str),
@@ -76,7 +76,7 @@ fn read_named<'a>(name: &'a str, text: &'a str) -> Result<MMapPath<'a>, Fault>
 }
 
 impl<'a> MMapPath<'a> {
-    // Name and form are procfs-core's; a `From` can't refuse, and this can.
+    /// Name and form are procfs-core's; a `From` can't refuse, and this can.
     pub fn from(text: &'a str) -> Result<MMapPath<'a>, Fault>
         ensures { seen result ≡ path_of text.now }
     {
@@ -93,7 +93,7 @@ impl<'a> MMapPath<'a> {
         }
     }
 
-    // The same of bytes, which may be no text.
+    /// The same of bytes, which may be no text.
     pub fn from_bytes(bytes: &'a [u8]) -> Result<MMapPath<'a>, Refusal>
         ensures { seen_in result ≡ path_in bytes.now }
     {

@@ -6,7 +6,7 @@ use crate::mapping::MemoryMap;
 use sources::fault::Fault;
 use sources::pieces::strip_prefix;
 
-// The keys that are measured.
+/// The keys that are measured.
 #[derive(Clone, Copy)]
 pub enum Key {
     Rss,
@@ -14,14 +14,14 @@ pub enum Key {
     SwapPss,
 }
 
-// A measured key, and the amount that a line gives it.
+/// A measured key, and the amount that a line gives it.
 #[derive(Clone, Copy)]
 pub struct Setting {
     pub key: Key,
     pub amount: u64,
 }
 
-// The sorts of line: one that opens a mapping, and an attribute's, which sets one of the keys or none. Each may be badly written.
+/// The sorts of line: one that opens a mapping, and an attribute's, which sets one of the keys or none. Each may be badly written.
 #[derive(Clone, Copy)]
 pub enum Sort {
     Mapping(Result<(), Fault>),
@@ -60,7 +60,7 @@ pub(crate) fn capital_first(line: &str) -> bool
     line.as_bytes().first().is_some_and(u8::is_ascii_uppercase)
 }
 
-// The sort of a line of smaps text.
+/// The sort of a line of smaps text.
 pub fn sort_of(line: &str) -> Sort
     ensures { result ≡ sort_of line.now }
 {

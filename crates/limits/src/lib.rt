@@ -1,4 +1,4 @@
-// The record of a process's limits: what a line sets, and how closing judges what the lines left.
+//! The record of a process's limits: what a line sets, and how closing judges what the lines left.
 #![tactic(auto)]
 
 pub mod limit;

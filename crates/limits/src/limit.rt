@@ -6,15 +6,15 @@ use sources::fault::Fault;
 use sources::number::{FromStrRadix, Radix};
 use std::str::FromStr;
 
-// How far a process may go, or that there is no bound.
-// An `Option<u64>` would say as much; procfs-core has this enum.
+/// How far a process may go, or that there is no bound.
+/// An `Option<u64>` would say as much; procfs-core has this enum.
 #[derive(Clone, Copy, PartialEq, Eq, Debug)]
 pub enum LimitValue {
     Unlimited,
     Value(u64),
 }
 
-// The bound that counts, and the one up to which a process may raise it.
+/// The bound that counts, and the one up to which a process may raise it.
 #[derive(Clone, Copy, PartialEq, Eq, Debug, Default)]
 pub struct Limit {
     pub soft_limit: LimitValue,
@@ -46,7 +46,7 @@ impl FromStr for LimitValue {
 }
 
 impl Limit {
-    // The soft limit is judged first. Of two texts, and so no `From`.
+    /// The soft limit is judged first. Of two texts, and so no `From`.
     pub fn from_pair(soft: &str, hard: &str) -> Result<Limit, Fault>
         ensures { result ≡ limit_of soft.now hard.now }
     {

@@ -6,7 +6,7 @@ use sources::fault::Fault;
 use sources::pieces::{strip_prefix, trimmed};
 use sources::reason::Reason;
 
-// What a line says of a limit: the place of its field, from 0 on, and the words of the soft limit and the hard one.
+/// What a line says of a limit: the place of its field, from 0 on, and the words of the soft limit and the hard one.
 #[derive(Clone, Copy)]
 pub struct LimitLine<'a> {
     pub place: usize,
@@ -33,7 +33,7 @@ impl<'a> LimitLine<'a> {
         Some(LimitLine { place, soft, hard })
     }
 
-    // What the line says, if it names a limit.
+    /// What the line says, if it names a limit.
     pub fn from_line(line: &'a str) -> Result<Option<LimitLine<'a>>, Fault>
         ensures { seen_entry result ≡ entry_of line.now }
     {

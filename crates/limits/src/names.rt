@@ -25,7 +25,7 @@ const NAMES: [&str; 16] = [
     "Max realtime timeout",
 ];
 
-// The place, from 0 on, of the name that the first n words of a text are, if they are one.
+/// The place, from 0 on, of the name that the first n words of a text are, if they are one.
 pub fn place_of(text: &str, n: usize) -> Option<usize>
     ensures value { result ≡ place_of (take n (white_words text.now)) }
     ensures bound { IfSome result (λ place. place < 16) }
@@ -41,7 +41,7 @@ fn name(place: usize) -> &'static str
     NAMES[place]
 }
 
-// The place of the name that a text begins with, and what follows the space behind it.
+/// The place of the name that a text begins with, and what follows the space behind it.
 pub fn named(text: &str) -> Option<(usize, &str)>
     ensures bound { IfSome result (λ p. p.0 < 16) }
     ensures text { IfSome result (λ p. text.now ≡ slice_index_or names p.0 [] ++ (32 ∷ p.1.now)) }

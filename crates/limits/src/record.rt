@@ -3,7 +3,7 @@ ghost use Rattle.limits.specs.Record.{blank_limits};
 
 use crate::limit::Limit;
 
-// The limits of a process.
+/// The limits of a process.
 #[derive(Clone, Copy, Default)]
 pub struct Limits {
     pub max_cpu_time: Limit,
@@ -25,7 +25,7 @@ pub struct Limits {
 }
 
 impl Limits {
-    // A record in which every limit is 0.
+    /// A record in which every limit is 0.
     pub fn blank() -> Limits
         ensures { result ≡ blank_limits }
     {

@@ -13,7 +13,7 @@ use fields::slots::Slots;
 use sources::fault::Fault;
 use sources::kind::Break;
 
-// What the last line of each limit's name left, in the order of the fields.
+/// What the last line of each limit's name left, in the order of the fields.
 #[derive(Clone, Copy)]
 pub struct LimitsSlots {
     pub slots: [Slot<Limit>; 16],

@@ -2,7 +2,7 @@ use kinds::measure::Figures;
 use packing::place::View;
 use sources::fault::Refusal;
 
-// A call of a run. A measure is named by the number of the Measure call that made it, from 0.
+/// A call of a run. A measure is named by the number of the Measure call that made it, from 0.
 #[derive(Drop)]
 pub enum Call<S> {
     Measure {
@@ -34,19 +34,19 @@ pub enum Call<S> {
     Used,
 }
 
-// What came of a call.
+/// What came of a call.
 #[derive(Clone, Copy, PartialEq, Eq, Debug)]
 pub enum Answer {
-    // There is no such measure: none was made, it was refused, or it is charged.
+    /// There is no such measure: none was made, it was refused, or it is charged.
     Missing,
-    // A measure was made, with these figures.
+    /// A measure was made, with these figures.
     Made {
         mappings: u32,
         totals: Figures,
     },
     Done,
     Refused(Refusal),
-    // A measure was refused and handed back.
+    /// A measure was refused and handed back.
     Handed {
         refusal: Refusal,
         mappings: u32,

@@ -1,4 +1,4 @@
-// Any row of calls on a packing list, in one call.
+//! Any row of calls on a packing list, in one call.
 #![tactic(auto)]
 
 pub mod call;

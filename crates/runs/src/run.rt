@@ -15,7 +15,7 @@ use std::error::Error;
 use std::fmt;
 use std::marker::Model;
 
-// The memory of a run: for its answers, and for its measures. It is for so many calls.
+/// The memory of a run: for its answers, and for its measures. It is for so many calls.
 #[derive(Drop)]
 pub struct Memory {
     answers: Vec<Answer>,
@@ -34,7 +34,7 @@ impl Model for Memory {
 }
 
 impl Memory {
-    // Memory for no call at all never lacks.
+    /// Memory for no call at all never lacks.
     pub fn new(alloc: Global, calls: usize) -> Result<Memory, AllocError>
         ensures room { IfOk result (λ m. m ≡ calls) }
         ensures none { calls ≡ 0 → IsOk result }
@@ -46,7 +46,7 @@ impl Memory {
     }
 }
 
-// A row of more calls than its memory is for.
+/// A row of more calls than its memory is for.
 #[derive(Clone, Copy, PartialEq, Eq, Debug)]
 pub struct NoRoom;
 
@@ -60,7 +60,7 @@ impl fmt::Display for NoRoom {
 
 impl Error for NoRoom {}
 
-// Runs a row of calls on a list that is just made: what each answers. A row that has no room in the memory is not begun.
+/// Runs a row of calls on a list that is just made: what each answers. A row that has no room in the memory is not begun.
 pub fn run<S: Source + Drop>(
     limit: u64,
     calls: Vec<Call<S>>,

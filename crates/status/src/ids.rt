@@ -9,7 +9,7 @@ use fields::value::figure;
 use sources::fault::Fault;
 use sources::number::Radix;
 
-// Slots of the name, the state and the numbers of a process.
+/// Slots of the name, the state and the numbers of a process.
 #[derive(Clone, Copy, Default)]
 pub struct IdsSlots {
     pub(crate) name: Slot<Text>,

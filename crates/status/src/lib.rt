@@ -1,4 +1,4 @@
-// The record of a process's status: a slot for each field, and how lines fill them.
+//! The record of a process's status: a slot for each field, and how lines fill them.
 #![tactic(auto)]
 
 mod ids;

@@ -7,7 +7,7 @@ use fields::slot::{Slot, set_optional};
 use fields::value::kilobytes;
 use sources::fault::Fault;
 
-// Slots of figures of memory, in kB.
+/// Slots of figures of memory, in kB.
 #[derive(Clone, Copy, Default)]
 pub struct MemorySlots {
     pub(crate) vmpeak: Slot<u64>,

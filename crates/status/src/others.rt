@@ -9,7 +9,7 @@ use fields::value::{figure, flag, put_mask, put_ranges};
 use sources::fault::Fault;
 use sources::number::Radix;
 
-// Slots of privileges, processors, memory nodes, switches and flags.
+/// Slots of privileges, processors, memory nodes, switches and flags.
 #[derive(Clone, Copy, Default)]
 pub struct OthersSlots {
     pub(crate) nonewprivs: Slot<u64>,

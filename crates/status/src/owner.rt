@@ -7,7 +7,7 @@ use fields::slot::{Slot, at_field, needed};
 use fields::value::{Four, read_four};
 use sources::fault::Fault;
 
-// Slots of the owner of a process.
+/// Slots of the owner of a process.
 #[derive(Clone, Copy, Default)]
 pub struct OwnerSlots {
     pub(crate) uid: Slot<Four>,

@@ -18,7 +18,7 @@ use fields::slots::Slots;
 use sources::fault::Fault;
 use sources::kind::Break;
 
-// What /proc/PID/status says of a process, field by field; sizes are in kB. docs/STATUS.md has what each field is.
+/// What /proc/PID/status says of a process, field by field; sizes are in kB. docs/STATUS.md has what each field is.
 #[derive(Clone, Copy, Default)]
 pub struct Status {
     pub name: Text,
@@ -84,8 +84,8 @@ pub struct Status {
     pub thp_enabled: Option<bool>,
 }
 
-// A slot for each line's name, by topic; the topics are contiguous in the order of the fields.
-// The topics are alike, but their fields are of many types, and a slot that knew its own number would take as many lines a field.
+/// A slot for each line's name, by topic; the topics are contiguous in the order of the fields.
+/// The topics are alike, but their fields are of many types, and a slot that knew its own number would take as many lines a field.
 #[derive(Clone, Copy, Default)]
 pub struct StatusSlots {
     ids: IdsSlots,
@@ -173,7 +173,7 @@ impl Slots for StatusSlots {
 }
 
 impl Status {
-    // What a record holds after a refusal: zeros, nothing where a field may be missing, and empty texts and lists.
+    /// What a record holds after a refusal: zeros, nothing where a field may be missing, and empty texts and lists.
     pub fn blank() -> Status
         ensures blank { result ≡ blank_status }
         ensures start { SetsEveryField }

@@ -8,7 +8,7 @@ use fields::value::{figure, pair};
 use sources::fault::Fault;
 use sources::number::Radix;
 
-// Slots of threads, signals and capabilities.
+/// Slots of threads, signals and capabilities.
 #[derive(Clone, Copy, Default)]
 pub struct SignalsSlots {
     pub(crate) threads: Slot<u64>,

@@ -9,7 +9,7 @@ use fields::value::{figure, put_groups, put_spaces};
 use sources::fault::Fault;
 use sources::number::Radix;
 
-// Slots of descriptors, groups and name spaces.
+/// Slots of descriptors, groups and name spaces.
 #[derive(Clone, Copy, Default)]
 pub struct SpacesSlots {
     pub(crate) fdsize: Slot<u32>,

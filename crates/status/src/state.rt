@@ -1,7 +1,7 @@
 ghost use Rattle.std.specs.Prelude.{◌≡◌};
 ghost use Rattle.status.specs.States.{state_of};
 
-// The state of a process.
+/// The state of a process.
 #[derive(Clone, Copy, PartialEq, Eq, Debug)]
 pub enum ProcState {
     Running,
@@ -18,7 +18,7 @@ pub enum ProcState {
 }
 
 impl ProcState {
-    // By its letter: twelve letters for eleven states, matched as literals.
+    /// By its letter: twelve letters for eleven states, matched as literals.
     pub fn from_char(c: char) -> Option<ProcState>
         ensures { result ≡ state_of c }
     {

@@ -1,4 +1,4 @@
-// Readers of a descriptor's target, of a process's system call and of a word of its page table.
+//! Readers of a descriptor's target, of a process's system call and of a word of its page table.
 #![tactic(auto)]
 
 pub mod page;

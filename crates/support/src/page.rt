@@ -1,7 +1,7 @@
 ghost use Rattle.std.specs.Prelude.{◌≡◌, ℕ, ◌<◌, ◌^◌};
 ghost use Rattle.support.specs.Page.{page_frame_number, page_of, soft_dirty, exclusively_mapped, write_protected, file_or_shared_anon, swapped, present, swap_offset, swap_type, memory_word, swap_word};
 
-// What a word says of its page, of whichever sort.
+/// What a word says of its page, of whichever sort.
 pub trait PageFlags: Sized {
     ghost word: { Self → ℕ };
 
@@ -46,13 +46,13 @@ pub trait PageFlags: Sized {
     }
 }
 
-// The word of a page that is not swapped.
+/// The word of a page that is not swapped.
 #[derive(Clone, Copy, PartialEq, Eq, Debug)]
 pub struct MemoryPageFlags {
     pub bits: u64,
 }
 
-// The word of a swapped page.
+/// The word of a swapped page.
 #[derive(Clone, Copy, PartialEq, Eq, Debug)]
 pub struct SwapPageFlags {
     pub bits: u64,
@@ -81,6 +81,7 @@ impl PageFlags for SwapPageFlags {
 }
 
 impl MemoryPageFlags {
+    /// Bits 0 to 54: the number of the page's frame, where the page is present (pagemap.rst).
     pub fn get_page_frame_number(&self) -> u64
         ensures value { result ≡ page_frame_number self.now.bits }
         ensures fits { result < 2 ^ 55 }
@@ -90,6 +91,7 @@ impl MemoryPageFlags {
 }
 
 impl SwapPageFlags {
+    /// Bits 0 to 4: which swap area the page is in (pagemap.rst).
     pub fn get_swap_type(&self) -> u64
         ensures value { result ≡ swap_type self.now.bits }
         ensures fits { result < 2 ^ 5 }
@@ -97,6 +99,7 @@ impl SwapPageFlags {
         self.bits & ((1 << 5) - 1)
     }
 
+    /// Bits 5 to 54: where in that area (pagemap.rst).
     pub fn get_swap_offset(&self) -> u64
         ensures value { result ≡ swap_offset self.now.bits }
         ensures fits { result < 2 ^ 50 }
@@ -105,7 +108,7 @@ impl SwapPageFlags {
     }
 }
 
-// What a word of a page table is of.
+/// What a word of a page table is of.
 #[derive(Clone, Copy, PartialEq, Eq, Debug)]
 pub enum PageInfo {
     MemoryPage(MemoryPageFlags),
@@ -113,6 +116,7 @@ pub enum PageInfo {
 }
 
 impl PageInfo {
+    /// Which sort a word is of: bit 62 says that the page is swapped (pagemap.rst). No word is refused.
     pub fn parse_info(info: u64) -> PageInfo
         ensures { result ≡ page_of info }
     {

@@ -11,7 +11,7 @@ use sources::text::text;
 // The most bytes that a system call's text may have.
 const MAX_TEXT: usize = 4096;
 
-// Whether a process is blocked, and in which system call.
+/// Whether a process is blocked, and in which system call.
 #[derive(Clone, Copy, PartialEq, Eq, Debug)]
 pub enum Syscall {
     Running,
@@ -89,6 +89,8 @@ fn read(bytes: &[u8]) -> Result<Syscall, Fault>
 }
 
 impl Syscall {
+    /// Reads the text of /proc/PID/syscall (proc(5)). Refused are 2, more than 4,096 bytes; 1, bytes that are not UTF-8;
+    /// 5, a missing piece; 6, a bad number. Of what is wrong, the first in this order, and then in that of the pieces, is told.
     pub fn from_bytes(bytes: &[u8]) -> Result<Syscall, Refusal>
         ensures { result ≡ call_in bytes.now }
     {

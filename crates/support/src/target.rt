@@ -8,7 +8,7 @@ use sources::pieces::{bracketed, split_once, strip_prefix};
 use sources::reason::Reason;
 use sources::text::text;
 
-// What a descriptor stands for, as the name of its link says it.
+/// What a descriptor stands for, as the name of its link says it.
 #[derive(Clone, Copy, PartialEq, Eq, Debug)]
 pub enum FDTarget<'a> {
     Path(&'a str),
@@ -49,7 +49,7 @@ fn read_typed<'a>(kind: &'a str, rest: &'a str) -> Result<FDTarget<'a>, Fault>
 }
 
 impl<'a> FDTarget<'a> {
-    // The Rust's name, and no FromStr, whose answer couldn't borrow the text.
+    /// The Rust's name, and no FromStr, whose answer couldn't borrow the text.
     #[tactic(auto, using(crate::proofs::Written::seen_back))]
     pub fn from_str(text: &'a str) -> Result<FDTarget<'a>, Fault>
         ensures reading { seen result ≡ target_of text.now }
@@ -68,7 +68,7 @@ impl<'a> FDTarget<'a> {
         }
     }
 
-    // The same of bytes, which may be no text.
+    /// The same of bytes, which may be no text.
     pub fn from_bytes(bytes: &'a [u8]) -> Result<FDTarget<'a>, Refusal>
         ensures { seen_in result ≡ target_in bytes.now }
     {

@@ -1,4 +1,4 @@
-// Readings of status and limits by calls that answer one figure: bench/ times them, and nothing else uses them.
+//! Readings of status and limits by calls that answer one figure: bench/ times them, and nothing else uses them.
 #![tactic(auto)]
 
 ghost use Rattle.std.specs.Prelude.{◌≡◌};
@@ -46,7 +46,7 @@ fn limits_in(text: &[u8], limits: &mut Limits) -> Result<(), Refusal>
     read_limits(&mut Held::new(text), limits)
 }
 
-// The threads that a status tells, which is read so often into one record, and once at least.
+/// The threads that a status tells, which is read so often into one record, and once at least.
 #[unsafe(no_mangle)]
 pub extern "C" fn jomukahu_timed_status(text: &[u8], times: u32) -> u64
     ensures { result ≡ status_told text.now }
@@ -59,7 +59,7 @@ pub extern "C" fn jomukahu_timed_status(text: &[u8], times: u32) -> u64
     or_number(read, status.threads)
 }
 
-// How many files limits allow, which are read so.
+/// How many files limits allow, which are read so.
 #[unsafe(no_mangle)]
 pub extern "C" fn jomukahu_timed_limits(text: &[u8], times: u32) -> u64
     ensures { result ≡ limits_told text.now }

@@ -5,10 +5,10 @@ use fields::counted::Counted;
 use sources::fault::Fault;
 use sources::reason::Reason;
 
-// The bytes of an attribute's key, at most 32.
+/// The bytes of an attribute's key, at most 32.
 pub type Key = Counted<u8, 32>;
 
-// One attribute of a mapping.
+/// One attribute of a mapping.
 #[derive(Clone, Copy)]
 pub struct Entry {
     pub key: Key,
@@ -16,6 +16,7 @@ pub struct Entry {
 }
 
 impl Entry {
+    /// An entry of zeros, as refusals leave all cells.
     pub fn blank() -> Entry
         ensures { result ≡ blank_entry }
     {

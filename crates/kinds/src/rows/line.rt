@@ -9,7 +9,7 @@ use crate::sort::capital_first;
 use sources::fault::Fault;
 use sources::pieces::strip_prefix;
 
-// What an attribute's line says of its mapping.
+/// What an attribute's line says of its mapping.
 #[derive(Clone, Copy)]
 pub enum Saying {
     Nothing,
@@ -17,7 +17,7 @@ pub enum Saying {
     Value(Entry),
 }
 
-// A line of smaps text, as rows take it: one that opens a mapping, or an attribute's. Each may be badly written.
+/// A line of smaps text, as rows take it: one that opens a mapping, or an attribute's. Each may be badly written.
 #[derive(Clone, Copy)]
 pub enum RowLine {
     Mapping(Result<Row, Fault>),
@@ -40,7 +40,7 @@ fn saying_of(line: &str) -> Result<Saying, Fault>
     }))
 }
 
-// What a line of smaps text is that stands behind `before` bytes of it.
+/// What a line of smaps text is that stands behind `before` bytes of it.
 #[tactic(auto, unfolding(crate::specs::Rows::Lines::row_line_of))]
 pub fn row_line_of(line: &str, before: usize) -> RowLine
     ensures { result ≡ row_line_of before line.now }

@@ -5,14 +5,14 @@ ghost use Rattle.kinds.specs.Rows.Paths.{after_space, path_piece, name_at, path_
 use crate::path::MMapPath;
 use sources::pieces::{split_once, trimmed_start};
 
-// Where bytes stand in the whole text.
+/// Where bytes stand in the whole text.
 #[derive(Clone, Copy, PartialEq, Eq, Debug)]
 pub struct Place {
     pub offset: usize,
     pub length: usize,
 }
 
-// A path, as numbers: its case, from 0 in the order of `MMapPath`; the thread or the key that it has, else 0; and where its name stands, else nowhere.
+/// A path, as numbers: its case, from 0 in the order of `MMapPath`; the thread or the key that it has, else 0; and where its name stands, else nowhere.
 #[derive(Clone, Copy, PartialEq, Eq, Debug)]
 pub struct PathCell {
     pub kind: u8,

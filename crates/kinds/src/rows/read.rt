@@ -16,7 +16,7 @@ use sources::kind::{Break, Finish, Kind};
 use sources::reason::Reason;
 use sources::source::Source;
 
-// How many rows and entries were filled.
+/// How many rows and entries were filled.
 #[derive(Clone, Copy, PartialEq, Eq, Debug)]
 pub struct Counts {
     pub rows: usize,
@@ -161,7 +161,7 @@ impl<R: Lent<Row>, E: Lent<Entry>> Finish for OpenTables<R, E> {
     }
 }
 
-// Reads the smaps text of a source into rows and entries, and answers how many of each. A refusal blanks all cells.
+/// Reads the smaps text of a source into rows and entries, and answers how many of each. A refusal blanks all cells.
 pub fn read_rows<S: Source>(
     source: &mut S,
     rows: &mut [Row],

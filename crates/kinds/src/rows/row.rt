@@ -6,7 +6,7 @@ use crate::perms::MMPermissions;
 use crate::rows::path::{PathCell, Place, name_at, path_cell};
 use sources::fault::Fault;
 
-// One mapping: its line, the flags of its last `VmFlags` line, and which entries are its attributes.
+/// One mapping: its line, the flags of its last `VmFlags` line, and which entries are its attributes.
 #[derive(Clone, Copy, PartialEq, Eq, Debug)]
 pub struct Row {
     pub address: (u64, u64),
@@ -15,14 +15,15 @@ pub struct Row {
     pub dev: (i32, i32),
     pub inode: u64,
     pub path: PathCell,
-    // a bit for each flag
+    /// a bit for each flag
     pub flags: u32,
-    // the number of its first entry, and how many there are
+    /// the number of its first entry, and how many there are
     pub first: usize,
     pub count: usize,
 }
 
 impl Row {
+    /// A row of zeros, as refusals leave all cells.
     pub fn blank() -> Row
         ensures { result ≡ blank_row }
     {

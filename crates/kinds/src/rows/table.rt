@@ -6,7 +6,7 @@ ghost use Rattle.kinds.specs.Rows.Cells.{Cells, cells, used, last, pushed, writt
 use sources::fault::Fault;
 use sources::reason::Reason;
 
-// Cells of the caller's, of which the first `count` are in use: one table for rows and for entries.
+/// Cells of the caller's, of which the first `count` are in use: one table for rows and for entries.
 #[derive(Drop)]
 pub struct Table<'a, T> {
     cells: &'a mut [T],
@@ -14,7 +14,7 @@ pub struct Table<'a, T> {
 }
 
 impl<'a, T: Copy> Table<'a, T> {
-    // A table that no cell of is in use.
+    /// A table that no cell of is in use.
     pub fn new(cells: &'a mut [T]) -> Table<'a, T>
         ensures same { result.cells.ghost_name ≡ cells.entry.ghost_name }
         ensures cells { result.cells.now ≡ cells.old }
@@ -24,7 +24,7 @@ impl<'a, T: Copy> Table<'a, T> {
     }
 }
 
-// A table that is lent, as a bound. A kind has a constant, which can't be stated in an impl for a type that names a lifetime; so the tables come into it as type arguments.
+/// A table that is lent, as a bound. A kind has a constant, which can't be stated in an impl for a type that names a lifetime; so the tables come into it as type arguments.
 pub trait Lent<T> {
     ghost table: { Self → Cells T };
 
@@ -125,7 +125,7 @@ impl<'k, T, X: Lent<T>> Lent<T> for &'k mut X {
     ghost still = { λ a b c p q. (q.0 ∙ p.0, X.still a.now b.now c.now p.1 q.1) };
 }
 
-// Writes one item to all cells.
+/// Writes one item to all cells.
 pub fn blank<T: Copy>(held: &mut [T], item: T)
     ensures { held.new ≡ replicate (length held.old) item }
 {
