@@ -1,9 +1,10 @@
 // Limits, a line each.
 use crate::trouble::Trouble;
+use cli::fields::LIMITS_FIELDS;
 use kinds::limits_text::read_limits;
 use limits::limit::{Limit, LimitValue};
 use limits::record::Limits;
-use sources::input::{Form, Input};
+use sources::source::Source;
 use std::alloc::Global;
 use std::fmt;
 use std::fmt::{Display, Formatter};
@@ -23,31 +24,32 @@ impl Display for Bound {
 #[derive(Clone, Copy)]
 struct Table<'a>(&'a Limits);
 
-// The limits in the order of the fields, by their names.
-fn named(limits: &Limits) -> [(&'static str, Limit); 16] {
+// The limits in the order of the fields.
+fn in_order(limits: &Limits) -> [Limit; 16] {
     [
-        ("max_cpu_time", limits.max_cpu_time),
-        ("max_file_size", limits.max_file_size),
-        ("max_data_size", limits.max_data_size),
-        ("max_stack_size", limits.max_stack_size),
-        ("max_core_file_size", limits.max_core_file_size),
-        ("max_resident_set", limits.max_resident_set),
-        ("max_processes", limits.max_processes),
-        ("max_open_files", limits.max_open_files),
-        ("max_locked_memory", limits.max_locked_memory),
-        ("max_address_space", limits.max_address_space),
-        ("max_file_locks", limits.max_file_locks),
-        ("max_pending_signals", limits.max_pending_signals),
-        ("max_msgqueue_size", limits.max_msgqueue_size),
-        ("max_nice_priority", limits.max_nice_priority),
-        ("max_realtime_priority", limits.max_realtime_priority),
-        ("max_realtime_timeout", limits.max_realtime_timeout),
+        limits.max_cpu_time,
+        limits.max_file_size,
+        limits.max_data_size,
+        limits.max_stack_size,
+        limits.max_core_file_size,
+        limits.max_resident_set,
+        limits.max_processes,
+        limits.max_open_files,
+        limits.max_locked_memory,
+        limits.max_address_space,
+        limits.max_file_locks,
+        limits.max_pending_signals,
+        limits.max_msgqueue_size,
+        limits.max_nice_priority,
+        limits.max_realtime_priority,
+        limits.max_realtime_timeout,
     ]
 }
 
 impl Display for Table<'_> {
     fn fmt<W: fmt::Write>(&self, f: &mut Formatter<W>) -> fmt::Result {
-        for (name, limit) in named(self.0) {
+        let limits = in_order(self.0);
+        for (name, limit) in LIMITS_FIELDS.iter().zip(&limits) {
             let soft = Bound(limit.soft_limit);
             let hard = Bound(limit.hard_limit);
             write!(f, "{name:<21} {soft} {hard}\n")?;
@@ -56,8 +58,9 @@ impl Display for Table<'_> {
     }
 }
 
-pub fn limits_text<'a>(alloc: Global, form: Form, bytes: &[u8]) -> Result<String, Trouble<'a>> {
+/// The limits of a source's text, a line each.
+pub fn limits_text<'a, S: Source>(alloc: Global, source: &mut S) -> Result<String, Trouble<'a>> {
     let mut limits = Limits::blank();
-    read_limits(&mut Input::new(form, bytes)?, &mut limits)?;
+    read_limits(source, &mut limits)?;
     Ok(format!(in alloc; "{}", Table(&limits))?)
 }

@@ -1,85 +1,70 @@
-// Prints what a process's texts of /proc say, for people: rows of mappings, status, limits, targets of descriptors, system calls and words of page tables.
-//
-// The arguments are one request, or `script` and a file of requests. request.rt says what requests there are.
+//! Prints what a process's texts of /proc say, for people: rows of mappings, status, limits, targets of descriptors, system calls and words of page tables.
+//!
+//! The arguments are one request, or `script` and a file of requests. arguments.rt says what they are, and request.rt how a script writes them.
 #![tactic(auto)]
 
 mod answer;
-mod file;
+mod arguments;
 mod limits_text;
-mod refused;
+mod note;
 mod request;
 mod rows_text;
 mod script;
-mod shown;
 mod status_text;
 mod support_text;
+mod text;
 mod trouble;
 
-use answer::answer;
-use refused::Refused;
-use request::{Request, USAGE, parse};
+use answer::Answer;
+use arguments::{Asked, command};
+use cli::arguments::{Arguments, read, words};
+use cli::failure::{Failure, finish};
+use request::Request;
 use script::run_script;
-use std::env;
 use std::process::ExitCode;
 use std::rt::Files;
-use trouble::Trouble;
 
-// One request; whether it was answered. A refusal goes to standard output, as an answer does.
-fn run_one(
-    rt: &(impl Files + Print + Eprint + AllocGlobal),
-    request: &Request<'_>,
-) -> anyhow::Result<bool> {
-    match answer(rt, request) {
-        Ok(text) => {
-            print!(rt; "{text}")?;
-            Ok(true)
-        }
-        Err(Trouble::Refused(refusal)) => {
-            println!(rt; "{}", Refused(refusal))?;
-            Ok(false)
-        }
-        Err(trouble) => {
-            eprintln!(rt; "{trouble}")?;
-            Ok(false)
-        }
+const PROGRAM: &str = "inspect";
+
+// Answers one request. A refusal goes to standard output, as an answer does.
+fn run_request<'a>(
+    rt: &(impl Files + Input + Print + Eprint + AllocGlobal),
+    request: &Request<'a>,
+) -> Result<ExitCode, Failure<'a>> {
+    let answer = Answer::to(rt, request)?;
+    Failure::output(print!(rt; "{}", answer.text))?;
+    if let Some(note) = answer.note {
+        Failure::errors(eprintln!(rt; "{PROGRAM}: {note}"))?;
     }
-}
-
-// The exit status of what went well or did not.
-fn status(well: bool) -> ExitCode {
-    if well {
-        ExitCode::SUCCESS
-    } else {
+    Ok(if answer.is_refusal {
         ExitCode::FAILURE
-    }
+    } else {
+        ExitCode::SUCCESS
+    })
 }
 
-// What the arguments ask for.
-fn run(
-    rt: &(impl Files + Print + Eprint + AllocGlobal),
-    words: &[&str],
-) -> anyhow::Result<ExitCode> {
-    match words {
-        ["--help"] => {
-            print!(rt; "{USAGE}")?;
-            Ok(ExitCode::SUCCESS)
+// Does what the arguments ask for.
+fn run<'a>(
+    rt: &(impl Files + Input + Print + Eprint + AllocGlobal),
+    words: &'a [String],
+) -> Result<ExitCode, Failure<'a>> {
+    let matches = match read(rt, PROGRAM, command(rt.alloc())?, words)? {
+        Arguments::Given(matches) => matches,
+        Arguments::Told(code) => return Ok(code),
+    };
+    match Asked::from_matches(&matches) {
+        Some(Asked::Request(request)) => run_request(rt, &request),
+        Some(Asked::Script(path)) => run_script(rt, path),
+        None => {
+            Failure::errors(eprintln!(rt; "{PROGRAM}: no request; try '{PROGRAM} --help'"))?;
+            Ok(ExitCode::from(2))
         }
-        ["script", path] => Ok(status(run_script(rt, path)?)),
-        _ => match parse(words) {
-            Some(request) => Ok(status(run_one(rt, &request)?)),
-            None => {
-                eprint!(rt; "{USAGE}")?;
-                Ok(ExitCode::from(2))
-            }
-        },
     }
 }
 
-fn main(rt: HostRuntime) -> anyhow::Result<ExitCode> {
-    let args: Vec<String> = env::args(&rt)?.skip(1).collect(rt.alloc())?;
-    let mut words = Vec::new(rt.alloc());
-    for arg in args.as_slice() {
-        words.push(arg.as_str())?;
+fn main(rt: HostRuntime) -> ExitCode {
+    match words(&rt) {
+        Ok(words) => finish(&rt, PROGRAM, run(&rt, words.as_slice())),
+        Err(failure) => finish(&rt, PROGRAM, Err(failure)),
     }
-    run(&rt, words.as_slice())
 }

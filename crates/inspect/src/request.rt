@@ -1,63 +1,81 @@
 // What may be asked for.
-use crate::file::TextFile;
-use sources::input::Form;
+use cli::fields::{LIMITS_FIELDS, STATUS_FIELDS};
+use cli::text_file::TextFile;
 
-pub const USAGE: &str =
-    "inspect rows [recording] FILE       the mappings of an smaps text, a line each
-inspect status [recording] FILE     the fields of a status text
-inspect limits [recording] FILE     the limits of a limits text
-inspect target TEXT                 what a link of /proc/PID/fd stands for
-inspect syscall FILE                the system call of a process
-inspect pages FILE [COUNT]          words of a page table, 512 where no COUNT is given
-inspect script FILE                 requests, one a line, without the word inspect
-inspect --help                      this text
-";
+/// How many words of a page table are shown where no count is given.
+pub const WORDS: u64 = 512;
 
-// How many words are shown where no count is given.
-const WORDS: usize = 512;
+/// One byte more than a system call may have.
+const CALL: u64 = 4097;
+
+/// What a text is of.
+#[derive(Clone, Copy, PartialEq, Eq)]
+pub enum Topic {
+    Rows,
+    Status,
+    Limits,
+}
+
+impl Topic {
+    /// The topic of this name.
+    pub fn named(name: &str) -> Option<Topic> {
+        match name {
+            "rows" => Some(Topic::Rows),
+            "status" => Some(Topic::Status),
+            "limits" => Some(Topic::Limits),
+            _ => None,
+        }
+    }
+
+    /// The names of its fields, from number 1 on.
+    pub fn fields(self) -> &'static [&'static str] {
+        match self {
+            Topic::Rows => &[],
+            Topic::Status => &STATUS_FIELDS,
+            Topic::Limits => &LIMITS_FIELDS,
+        }
+    }
+}
 
 #[derive(Clone, Copy)]
 pub enum Request<'a> {
-    Rows(TextFile<'a>),
-    Status(TextFile<'a>),
-    Limits(TextFile<'a>),
+    Text(Topic, TextFile<'a>),
     Target(&'a str),
     Syscall(&'a str),
-    Pages { path: &'a str, count: usize },
+    Pages { path: &'a str, count: u64 },
 }
 
-fn text_file<'a>(words: &[&'a str]) -> Option<TextFile<'a>> {
-    match words {
-        [path] => Some(TextFile {
-            form: Form::Plain,
-            path,
-        }),
-        ["recording", path] => Some(TextFile {
-            form: Form::Recording,
-            path,
-        }),
-        _ => None,
+impl<'a> Request<'a> {
+    /// The request that words are, if they are one.
+    pub fn from_words(words: &[&'a str]) -> Option<Request<'a>> {
+        match words {
+            ["target", text] => Some(Request::Target(text)),
+            ["syscall", path] => Some(Request::Syscall(path)),
+            ["pages", path] => Some(Request::Pages { path, count: WORDS }),
+            ["pages", path, count] => Some(Request::Pages {
+                path,
+                count: count.parse().ok()?,
+            }),
+            [name, file @ ..] => Some(Request::Text(
+                Topic::named(name)?,
+                TextFile::from_words(file)?,
+            )),
+            [] => None,
+        }
+    }
+
+    /// Its file, and how many bytes of that matter.
+    pub fn file(&self) -> Option<(&'a str, u64)> {
+        match *self {
+            Request::Text(_, file) => Some((file.path, file.most())),
+            Request::Target(_) => None,
+            Request::Syscall(path) => Some((path, CALL)),
+            Request::Pages { path, count } => Some((path, count.saturating_mul(8))),
+        }
     }
 }
 
-// The request that words are, if they are one.
-pub fn parse<'a>(words: &[&'a str]) -> Option<Request<'a>> {
-    match words {
-        ["rows", file @ ..] => Some(Request::Rows(text_file(file)?)),
-        ["status", file @ ..] => Some(Request::Status(text_file(file)?)),
-        ["limits", file @ ..] => Some(Request::Limits(text_file(file)?)),
-        ["target", text] => Some(Request::Target(text)),
-        ["syscall", path] => Some(Request::Syscall(path)),
-        ["pages", path] => Some(Request::Pages { path, count: WORDS }),
-        ["pages", path, count] => Some(Request::Pages {
-            path,
-            count: count.parse().ok()?,
-        }),
-        _ => None,
-    }
-}
-
-// How a request of this name is written.
+/// How a request of this name is written.
 pub fn form_of(name: &str) -> Option<&'static str> {
     match name {
         "rows" => Some("rows [recording] FILE"),

@@ -1,14 +1,13 @@
 // The mappings of a process, a line each, and a line of totals.
-use crate::file::recorded_text;
-use crate::shown::Bytes;
 use crate::trouble::Trouble;
+use cli::escaped::EscapedBytes;
 use kinds::perms::MMPermissions;
 use kinds::rows::entry::Entry;
 use kinds::rows::flags::VmFlags;
 use kinds::rows::path::PathCell;
 use kinds::rows::read::read_rows;
 use kinds::rows::row::Row;
-use sources::input::{Form, Input};
+use sources::source::Source;
 use std::alloc::Global;
 use std::fmt;
 use std::fmt::{Display, Formatter};
@@ -102,7 +101,7 @@ impl Display for Name<'_> {
     fn fmt<W: fmt::Write>(&self, f: &mut Formatter<W>) -> fmt::Result {
         let number = self.path.number;
         match self.path.kind {
-            0 => write!(f, "{}", Bytes(self.bytes())),
+            0 => write!(f, "{}", EscapedBytes(self.bytes())),
             1 => f.write_str("[heap]"),
             2 => f.write_str("[stack]"),
             3 => write!(f, "[stack:{number}]"),
@@ -111,7 +110,7 @@ impl Display for Name<'_> {
             6 => f.write_str("[vsyscall]"),
             7 => f.write_str("[rollup]"),
             9 => write!(f, "/SYSV{:08x}", number.cast_unsigned() & 0xffff_ffff),
-            10 => write!(f, "[{}]", Bytes(self.bytes())),
+            10 => write!(f, "[{}]", EscapedBytes(self.bytes())),
             _ => f.write_str("-"),
         }
     }
@@ -214,8 +213,12 @@ fn put_row<W: fmt::Write>(
     write!(f, "{} {}\n", Flags(row.flags), Name { path, text })
 }
 
-// The table of a text that is whole, and is read from a source.
-fn printed(alloc: Global, source: &mut Input<'_>, text: &[u8]) -> Result<String, Trouble<'static>> {
+/// The mappings of a source's text, a line each; `text` is that text.
+pub fn rows_text<'a, S: Source>(
+    alloc: Global,
+    source: &mut S,
+    text: &[u8],
+) -> Result<String, Trouble<'a>> {
     let lines = text.split(|b| *b == b'\n').count();
     let mut rows = vec![in alloc; Row::blank(); lines]?;
     let mut entries = vec![in alloc; Entry::blank(); lines]?;
@@ -226,15 +229,4 @@ fn printed(alloc: Global, source: &mut Input<'_>, text: &[u8]) -> Result<String,
         text,
     };
     Ok(format!(in alloc; "{table}")?)
-}
-
-pub fn rows_text<'a>(alloc: Global, form: Form, bytes: &[u8]) -> Result<String, Trouble<'a>> {
-    let mut source = Input::new(form, bytes)?;
-    match form {
-        Form::Plain => printed(alloc, &mut source, bytes),
-        Form::Recording => {
-            let text = recorded_text(alloc, bytes)?;
-            printed(alloc, &mut source, text.as_slice())
-        }
-    }
 }

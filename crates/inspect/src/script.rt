@@ -1,13 +1,15 @@
 // Requests from a file, one a line, their words between ASCII white space. A blank line is skipped, and so is one whose first word begins with `#`.
-use crate::answer::answer;
-use crate::refused::Refused;
-use crate::request::{Request, form_of, parse};
-use crate::shown::Bytes;
-use crate::trouble::Trouble;
+use crate::PROGRAM;
+use crate::answer::Answer;
+use crate::request::{Request, form_of};
+use cli::escaped::Escaped;
+use cli::failure::Failure;
+use cli::text_file::{Given, read_given};
 use std::alloc::{AllocError, Global};
+use std::fmt;
 use std::fmt::{Display, Formatter};
+use std::process::ExitCode;
 use std::rt::Files;
-use std::{fmt, fs};
 
 // A line with the request that it makes.
 #[derive(Clone, Copy)]
@@ -32,10 +34,10 @@ impl Display for Mistake<'_> {
             Mistake::Utf8 => f.write_str("the line is not UTF-8"),
             Mistake::Unknown(word) => write!(
                 f,
-                "no request is named `{}`; `inspect --help` says what there is",
-                Bytes(word.as_bytes())
+                "no request is named '{}'; try '{PROGRAM} --help'",
+                Escaped(word)
             ),
-            Mistake::Usage(form) => write!(f, "the request is written `{form}`"),
+            Mistake::Usage(form) => write!(f, "the request is written '{form}'"),
         }
     }
 }
@@ -48,7 +50,7 @@ fn read_words<'a>(words: &[&'a str]) -> Result<Option<Request<'a>>, Mistake<'a>>
     if first.starts_with('#') {
         return Ok(None);
     }
-    match (parse(words), form_of(first)) {
+    match (Request::from_words(words), form_of(first)) {
         (Some(request), _) => Ok(Some(request)),
         (None, Some(form)) => Err(Mistake::Usage(form)),
         (None, None) => Err(Mistake::Unknown(first)),
@@ -85,56 +87,66 @@ fn read_script<'a>(alloc: Global, text: &'a [u8]) -> Result<Script<'a>, AllocErr
     Ok(Script::Lines(lines))
 }
 
+// Tells something of a line of the script of this name.
+fn tell<'a>(
+    rt: &impl Eprint,
+    name: &str,
+    number: u64,
+    what: &impl Display,
+) -> Result<(), Failure<'a>> {
+    Failure::errors(eprintln!(rt; "{PROGRAM}: {}:{number}: {what}", Given(name)))
+}
+
 // Answers a line of the script of this name; false where it is neither answered nor refused.
-fn run_line(
-    rt: &(impl Files + Print + Eprint + AllocGlobal),
+fn run_line<'a>(
+    rt: &(impl Files + Input + Print + Eprint + AllocGlobal),
     name: &str,
     line: &Line<'_>,
-) -> anyhow::Result<bool> {
-    println!(rt; "{}:", Bytes(line.text.as_bytes()))?;
-    match answer(rt, &line.request) {
-        Ok(text) => print!(rt; "{text}")?,
-        Err(Trouble::Refused(refusal)) => println!(rt; "{}", Refused(refusal))?,
-        Err(trouble) => {
-            eprintln!(rt; "{name}:{}: {trouble}", line.number)?;
+) -> Result<bool, Failure<'a>> {
+    Failure::output(println!(rt; "{}:", Escaped(line.text)))?;
+    let answer = match Answer::to(rt, &line.request) {
+        Ok(answer) => answer,
+        Err(failure) => {
+            tell(rt, name, line.number, &failure)?;
             return Ok(false);
         }
+    };
+    Failure::output(print!(rt; "{}", answer.text))?;
+    if let Some(note) = answer.note {
+        tell(rt, name, line.number, &note)?;
     }
     Ok(true)
 }
 
-// Answers all lines; false where one was neither answered nor refused.
-fn run_lines(
-    rt: &(impl Files + Print + Eprint + AllocGlobal),
+// Answers all lines; a failure where one was neither answered nor refused.
+fn run_lines<'a>(
+    rt: &(impl Files + Input + Print + Eprint + AllocGlobal),
     name: &str,
     lines: &[Line<'_>],
-) -> anyhow::Result<bool> {
-    let mut good = true;
+) -> Result<ExitCode, Failure<'a>> {
+    let mut code = ExitCode::SUCCESS;
     for line in lines {
         if !run_line(rt, name, line)? {
-            good = false;
+            code = ExitCode::FAILURE;
         }
     }
-    Ok(good)
+    Ok(code)
 }
 
-// Runs the script in a file. Where a line is no request, nothing is run.
-pub fn run_script(
-    rt: &(impl Files + Print + Eprint + AllocGlobal),
-    path: &str,
-) -> anyhow::Result<bool> {
-    let text = match fs::read(rt, path) {
+/// Runs the script in a file. Where a line is no request, nothing is run.
+pub fn run_script<'a>(
+    rt: &(impl Files + Input + Print + Eprint + AllocGlobal),
+    path: &'a str,
+) -> Result<ExitCode, Failure<'a>> {
+    let text = match read_given(rt, path, u64::MAX) {
         Ok(text) => text,
-        Err(error) => {
-            eprintln!(rt; "{path} can't be read: {error}")?;
-            return Ok(false);
-        }
+        Err(error) => return Err(Failure::reading(path, error)),
     };
     match read_script(rt.alloc(), text.as_slice())? {
         Script::Lines(lines) => run_lines(rt, path, lines.as_slice()),
         Script::Wrong { number, mistake } => {
-            eprintln!(rt; "{path}:{number}: {mistake}")?;
-            Ok(false)
+            tell(rt, path, number, &mistake)?;
+            Ok(ExitCode::FAILURE)
         }
     }
 }

@@ -1,13 +1,27 @@
 // The fields of a status, a line each.
-use crate::shown::{Bytes, OrDash};
 use crate::trouble::Trouble;
+use cli::escaped::EscapedBytes;
+use cli::fields::STATUS_FIELDS;
 use fields::counted::{Counted, Text};
 use kinds::status_text::read_status;
-use sources::input::{Form, Input};
+use sources::source::Source;
 use status::record::Status;
 use std::alloc::Global;
 use std::fmt;
 use std::fmt::{Display, Formatter};
+
+// A value, or `-` where there is none.
+#[derive(Clone, Copy)]
+struct OrDash<T>(Option<T>);
+
+impl<T: Display> Display for OrDash<T> {
+    fn fmt<W: fmt::Write>(&self, f: &mut Formatter<W>) -> fmt::Result {
+        match &self.0 {
+            Some(value) => write!(f, "{value}"),
+            None => f.write_str("-"),
+        }
+    }
+}
 
 // A mask of signals or capabilities, in base 16.
 #[derive(Clone, Copy)]
@@ -79,6 +93,19 @@ impl Display for Span {
 // The length of the longest name of a field.
 const LONGEST: usize = 26;
 
+// The names of the fields in the order of their numbers, of which so many are printed.
+#[derive(Drop)]
+struct Names(usize);
+
+impl Names {
+    // Takes the next.
+    fn next(&mut self) -> &'static str {
+        let name = STATUS_FIELDS.get(self.0).copied().unwrap_or("");
+        self.0 = self.0.saturating_add(1);
+        name
+    }
+}
+
 // The name of a field, filled up so that the values stand in one column.
 fn put_name<W: fmt::Write>(f: &mut Formatter<W>, name: &str) -> fmt::Result {
     write!(f, "{name}:")?;
@@ -88,18 +115,18 @@ fn put_name<W: fmt::Write>(f: &mut Formatter<W>, name: &str) -> fmt::Result {
     Ok(())
 }
 
-// A line of a field.
+// A line of the next field.
 fn put<W: fmt::Write, D: Display + Drop>(
     f: &mut Formatter<W>,
-    name: &str,
+    names: &mut Names,
     value: D,
 ) -> fmt::Result {
-    put_name(f, name)?;
+    put_name(f, names.next())?;
     write!(f, " {value}\n")
 }
 
-fn put_text<W: fmt::Write>(f: &mut Formatter<W>, name: &str, text: &Text) -> fmt::Result {
-    put(f, name, Bytes(text.items()))
+fn put_text<W: fmt::Write>(f: &mut Formatter<W>, names: &mut Names, text: &Text) -> fmt::Result {
+    put(f, names, EscapedBytes(text.items()))
 }
 
 fn items<T: Copy, const N: usize>(list: &Option<Counted<T, N>>) -> Option<&[T]> {
@@ -109,146 +136,113 @@ fn items<T: Copy, const N: usize>(list: &Option<Counted<T, N>>) -> Option<&[T]> 
 // A line of a list, its items as `shown` has them, or `-` where there is none.
 fn put_list<W: fmt::Write, T, D: Display + Drop, F: Fn(&T) -> D>(
     f: &mut Formatter<W>,
-    name: &str,
+    names: &mut Names,
     list: Option<&[T]>,
     shown: F,
 ) -> fmt::Result
     requires { F.IsAlwaysCallable shown }
 {
     match list {
-        Some([]) => write!(f, "{name}:\n"),
+        Some([]) => write!(f, "{}:\n", names.next()),
         Some(items) => {
-            put_name(f, name)?;
+            put_name(f, names.next())?;
             for item in items {
                 write!(f, " {}", shown(item))?;
             }
             f.write_str("\n")
         }
-        None => put(f, name, "-"),
+        None => put(f, names, "-"),
     }
 }
 
-fn put_ids<W: fmt::Write>(f: &mut Formatter<W>, s: &Status) -> fmt::Result {
-    put_text(f, "name", &s.name)?;
-    put(f, "umask", OrDash(s.umask.map(Modes)))?;
-    put_text(f, "state", &s.state)?;
-    put(f, "tgid", s.tgid)?;
-    put(f, "ngid", OrDash(s.ngid))?;
-    put(f, "pid", s.pid)?;
-    put(f, "ppid", s.ppid)?;
-    put(f, "tracerpid", s.tracerpid)
+fn put_ids<W: fmt::Write>(f: &mut Formatter<W>, names: &mut Names, s: &Status) -> fmt::Result {
+    put_text(f, names, &s.name)?;
+    put(f, names, OrDash(s.umask.map(Modes)))?;
+    put_text(f, names, &s.state)?;
+    put(f, names, s.tgid)?;
+    put(f, names, OrDash(s.ngid))?;
+    put(f, names, s.pid)?;
+    put(f, names, s.ppid)?;
+    put(f, names, s.tracerpid)
 }
 
-fn put_owner<W: fmt::Write>(f: &mut Formatter<W>, s: &Status) -> fmt::Result {
-    for (name, id) in [
-        ("ruid", s.ruid),
-        ("euid", s.euid),
-        ("suid", s.suid),
-        ("fuid", s.fuid),
-        ("rgid", s.rgid),
-        ("egid", s.egid),
-        ("sgid", s.sgid),
-        ("fgid", s.fgid),
-        ("fdsize", s.fdsize),
+fn put_owner<W: fmt::Write>(f: &mut Formatter<W>, names: &mut Names, s: &Status) -> fmt::Result {
+    for id in [
+        s.ruid, s.euid, s.suid, s.fuid, s.rgid, s.egid, s.sgid, s.fgid, s.fdsize,
     ] {
-        put(f, name, id)?;
+        put(f, names, id)?;
     }
     Ok(())
 }
 
-fn put_spaces<W: fmt::Write>(f: &mut Formatter<W>, s: &Status) -> fmt::Result {
-    put_list(f, "groups", Some(s.groups.items()), |id| *id)?;
-    put_list(f, "nstgid", items(&s.nstgid), |id| *id)?;
-    put_list(f, "nspid", items(&s.nspid), |id| *id)?;
-    put_list(f, "nspgid", items(&s.nspgid), |id| *id)?;
-    put_list(f, "nssid", items(&s.nssid), |id| *id)
+fn put_spaces<W: fmt::Write>(f: &mut Formatter<W>, names: &mut Names, s: &Status) -> fmt::Result {
+    put_list(f, names, Some(s.groups.items()), |id| *id)?;
+    put_list(f, names, items(&s.nstgid), |id| *id)?;
+    put_list(f, names, items(&s.nspid), |id| *id)?;
+    put_list(f, names, items(&s.nspgid), |id| *id)?;
+    put_list(f, names, items(&s.nssid), |id| *id)
 }
 
-fn put_memory<W: fmt::Write>(f: &mut Formatter<W>, s: &Status) -> fmt::Result {
-    for (name, size) in [
-        ("vmpeak", s.vmpeak),
-        ("vmsize", s.vmsize),
-        ("vmlck", s.vmlck),
-        ("vmpin", s.vmpin),
-        ("vmhwm", s.vmhwm),
-        ("vmrss", s.vmrss),
-        ("rssanon", s.rssanon),
-        ("rssfile", s.rssfile),
-        ("rssshmem", s.rssshmem),
-        ("vmdata", s.vmdata),
-        ("vmstk", s.vmstk),
-        ("vmexe", s.vmexe),
-        ("vmlib", s.vmlib),
-        ("vmpte", s.vmpte),
-        ("vmswap", s.vmswap),
-        ("hugetlbpages", s.hugetlbpages),
+fn put_memory<W: fmt::Write>(f: &mut Formatter<W>, names: &mut Names, s: &Status) -> fmt::Result {
+    for size in [
+        s.vmpeak,
+        s.vmsize,
+        s.vmlck,
+        s.vmpin,
+        s.vmhwm,
+        s.vmrss,
+        s.rssanon,
+        s.rssfile,
+        s.rssshmem,
+        s.vmdata,
+        s.vmstk,
+        s.vmexe,
+        s.vmlib,
+        s.vmpte,
+        s.vmswap,
+        s.hugetlbpages,
     ] {
-        put(f, name, OrDash(size.map(Kilobytes)))?;
+        put(f, names, OrDash(size.map(Kilobytes)))?;
     }
     Ok(())
 }
 
-fn put_signals<W: fmt::Write>(f: &mut Formatter<W>, s: &Status) -> fmt::Result {
-    put(f, "threads", s.threads)?;
-    put(f, "sigq", Queue(s.sigq.0, s.sigq.1))?;
-    for (name, mask) in [
-        ("sigpnd", s.sigpnd),
-        ("shdpnd", s.shdpnd),
-        ("sigblk", s.sigblk),
-        ("sigign", s.sigign),
-        ("sigcgt", s.sigcgt),
-        ("capinh", s.capinh),
-        ("capprm", s.capprm),
-        ("capeff", s.capeff),
+fn put_signals<W: fmt::Write>(f: &mut Formatter<W>, names: &mut Names, s: &Status) -> fmt::Result {
+    put(f, names, s.threads)?;
+    put(f, names, Queue(s.sigq.0, s.sigq.1))?;
+    for mask in [
+        s.sigpnd, s.shdpnd, s.sigblk, s.sigign, s.sigcgt, s.capinh, s.capprm, s.capeff,
     ] {
-        put(f, name, Mask(mask))?;
+        put(f, names, Mask(mask))?;
     }
-    put(f, "capbnd", OrDash(s.capbnd.map(Mask)))?;
-    put(f, "capamb", OrDash(s.capamb.map(Mask)))
+    put(f, names, OrDash(s.capbnd.map(Mask)))?;
+    put(f, names, OrDash(s.capamb.map(Mask)))
 }
 
-fn put_others<W: fmt::Write>(f: &mut Formatter<W>, s: &Status) -> fmt::Result {
-    put(f, "nonewprivs", OrDash(s.nonewprivs))?;
-    put(f, "seccomp", OrDash(s.seccomp))?;
+fn put_others<W: fmt::Write>(f: &mut Formatter<W>, names: &mut Names, s: &Status) -> fmt::Result {
+    put(f, names, OrDash(s.nonewprivs))?;
+    put(f, names, OrDash(s.seccomp))?;
     let bypass = s.speculation_store_bypass.as_ref();
-    let bypass = bypass.map(|text| Bytes(text.items()));
-    put(f, "speculation_store_bypass", OrDash(bypass))?;
+    let bypass = bypass.map(|text| EscapedBytes(text.items()));
+    put(f, names, OrDash(bypass))?;
+    put_list(f, names, items(&s.cpus_allowed), |word| Word(*word))?;
     put_list(
         f,
-        "cpus_allowed",
-        items(&s.cpus_allowed),
-        |word| Word(*word),
-    )?;
-    put_list(
-        f,
-        "cpus_allowed_list",
+        names,
         items(&s.cpus_allowed_list),
         |range| Span(range.0, range.1),
     )?;
+    put_list(f, names, items(&s.mems_allowed), |word| Word(*word))?;
     put_list(
         f,
-        "mems_allowed",
-        items(&s.mems_allowed),
-        |word| Word(*word),
-    )?;
-    put_list(
-        f,
-        "mems_allowed_list",
+        names,
         items(&s.mems_allowed_list),
         |range| Span(range.0, range.1),
     )?;
-    put(
-        f,
-        "voluntary_ctxt_switches",
-        OrDash(s.voluntary_ctxt_switches),
-    )?;
-    put(
-        f,
-        "nonvoluntary_ctxt_switches",
-        OrDash(s.nonvoluntary_ctxt_switches),
-    )?;
-    put(f, "core_dumping", OrDash(s.core_dumping))?;
-    put(f, "thp_enabled", OrDash(s.thp_enabled))
+    put(f, names, OrDash(s.voluntary_ctxt_switches))?;
+    put(f, names, OrDash(s.nonvoluntary_ctxt_switches))?;
+    put(f, names, OrDash(s.core_dumping))?;
+    put(f, names, OrDash(s.thp_enabled))
 }
 
 #[derive(Clone, Copy)]
@@ -256,17 +250,19 @@ struct Fields<'a>(&'a Status);
 
 impl Display for Fields<'_> {
     fn fmt<W: fmt::Write>(&self, f: &mut Formatter<W>) -> fmt::Result {
-        put_ids(f, self.0)?;
-        put_owner(f, self.0)?;
-        put_spaces(f, self.0)?;
-        put_memory(f, self.0)?;
-        put_signals(f, self.0)?;
-        put_others(f, self.0)
+        let mut names = Names(0);
+        put_ids(f, &mut names, self.0)?;
+        put_owner(f, &mut names, self.0)?;
+        put_spaces(f, &mut names, self.0)?;
+        put_memory(f, &mut names, self.0)?;
+        put_signals(f, &mut names, self.0)?;
+        put_others(f, &mut names, self.0)
     }
 }
 
-pub fn status_text<'a>(alloc: Global, form: Form, bytes: &[u8]) -> Result<String, Trouble<'a>> {
+/// The fields of a source's status text, a line each.
+pub fn status_text<'a, S: Source>(alloc: Global, source: &mut S) -> Result<String, Trouble<'a>> {
     let mut status = Status::blank();
-    read_status(&mut Input::new(form, bytes)?, &mut status)?;
+    read_status(source, &mut status)?;
     Ok(format!(in alloc; "{}", Fields(&status))?)
 }

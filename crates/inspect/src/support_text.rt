@@ -1,6 +1,6 @@
 // Targets, system calls and words of page tables.
-use crate::shown::Bytes;
 use crate::trouble::Trouble;
+use cli::escaped::Escaped;
 use std::alloc::Global;
 use std::fmt;
 use std::fmt::{Display, Formatter};
@@ -14,23 +14,22 @@ struct Target<'a>(FDTarget<'a>);
 impl Display for Target<'_> {
     fn fmt<W: fmt::Write>(&self, f: &mut Formatter<W>) -> fmt::Result {
         match self.0 {
-            FDTarget::Path(path) => write!(f, "path {}", Bytes(path.as_bytes())),
+            FDTarget::Path(path) => write!(f, "path {}", Escaped(path)),
             FDTarget::Socket(inode) => write!(f, "socket inode {inode}"),
             FDTarget::Net(inode) => write!(f, "net inode {inode}"),
             FDTarget::Pipe(inode) => write!(f, "pipe inode {inode}"),
-            FDTarget::AnonInode(name) => write!(f, "anon_inode {}", Bytes(name.as_bytes())),
-            FDTarget::MemFD(name) => write!(f, "memfd {}", Bytes(name.as_bytes())),
-            FDTarget::Other(kind, inode) => {
-                write!(f, "other {} inode {inode}", Bytes(kind.as_bytes()))
-            }
+            FDTarget::AnonInode(name) => write!(f, "anon_inode {}", Escaped(name)),
+            FDTarget::MemFD(name) => write!(f, "memfd {}", Escaped(name)),
+            FDTarget::Other(kind, inode) => { write!(f, "other {} inode {inode}", Escaped(kind)) }
             FDTarget::Unknown(kind, rest) => {
-                write!(f, "unknown {} ", Bytes(kind.as_bytes()))?;
-                write!(f, "{}", Bytes(rest.as_bytes()))
+                write!(f, "unknown {} ", Escaped(kind))?;
+                write!(f, "{}", Escaped(rest))
             }
         }
     }
 }
 
+/// What a target stands for.
 pub fn target_text<'a>(alloc: Global, text: &str) -> Result<String, Trouble<'a>> {
     let target = FDTarget::from_bytes(text.as_bytes())?;
     Ok(format!(in alloc; "{}\n", Target(target))?)
@@ -60,6 +59,7 @@ impl Display for Call {
     }
 }
 
+/// The system call that a text tells.
 pub fn call_text<'a>(alloc: Global, bytes: &[u8]) -> Result<String, Trouble<'a>> {
     let call = Syscall::from_bytes(bytes)?;
     Ok(format!(in alloc; "{}", Call(call))?)
@@ -87,8 +87,13 @@ struct Page(PageInfo);
 impl Display for Page {
     fn fmt<W: fmt::Write>(&self, f: &mut Formatter<W>) -> fmt::Result {
         match self.0 {
-            PageInfo::MemoryPage(page) => {
+            // Only of a page in memory do the low bits tell a frame.
+            PageInfo::MemoryPage(page) if page.is_present() => {
                 write!(f, "memory frame 0x{:x}", page.get_page_frame_number())?;
+                put_flags(f, &page)
+            }
+            PageInfo::MemoryPage(page) => {
+                f.write_str("not present")?;
                 put_flags(f, &page)
             }
             PageInfo::SwapPage(page) => {
@@ -122,6 +127,7 @@ impl Display for Words<'_> {
     }
 }
 
+/// The words that bytes are, a line each.
 pub fn pages_text<'a>(alloc: Global, bytes: &[u8]) -> Result<String, Trouble<'a>> {
     Ok(format!(in alloc; "{}", Words(bytes))?)
 }

@@ -1,15 +1,12 @@
 // Why a request has no answer.
-use crate::refused::Refused;
+use cli::failure::Failure;
 use sources::fault::Refusal;
 use std::alloc::{AllocError, AllocFailed};
-use std::fmt::{Display, Formatter};
-use std::{fmt, io};
 
-#[derive(Debug, Drop)]
+#[derive(Drop)]
 pub enum Trouble<'a> {
     Refused(Refusal),
-    Unread { path: &'a str, error: io::Error },
-    Memory,
+    Failed(Failure<'a>),
 }
 
 impl From<Refusal> for Trouble<'_> {
@@ -19,23 +16,13 @@ impl From<Refusal> for Trouble<'_> {
 }
 
 impl From<AllocError> for Trouble<'_> {
-    fn from(_error: AllocError) -> Self {
-        Trouble::Memory
+    fn from(error: AllocError) -> Self {
+        Trouble::Failed(Failure::from(error))
     }
 }
 
 impl<T: Drop> From<AllocFailed<T>> for Trouble<'_> {
-    fn from(_error: AllocFailed<T>) -> Self {
-        Trouble::Memory
-    }
-}
-
-impl Display for Trouble<'_> {
-    fn fmt<W: fmt::Write>(&self, f: &mut Formatter<W>) -> fmt::Result {
-        match self {
-            Trouble::Refused(refusal) => write!(f, "{}", Refused(*refusal)),
-            Trouble::Unread { path, error } => write!(f, "{path} can't be read: {error}"),
-            Trouble::Memory => f.write_str("out of memory"),
-        }
+    fn from(error: AllocFailed<T>) -> Self {
+        Trouble::from(AllocError::from(error))
     }
 }
