@@ -7,6 +7,7 @@ pub mod failure;
 pub mod fields;
 pub mod pulled;
 pub mod refused;
+pub mod sign;
 pub mod size;
 pub mod text_file;
 pub mod width;
