@@ -86,6 +86,7 @@ pub fn command<'a>(alloc: Global) -> Result<Command<'a>, AllocError> {
     let status = text_command(alloc, "status", "The fields of a status text, a line each")?;
     let limits = text_command(alloc, "limits", "The limits of a limits text, a line each")?;
     Command::new(alloc, "inspect")
+        .bin_name("inspect")?
         .version("0.1.0")
         .about("Prints what the texts of /proc say of a process")
         .after_help(EXAMPLES)
