@@ -1,6 +1,7 @@
 // What a refusal says to people, beyond its own words.
 ghost use Rattle.std.specs.Prelude.{◌≡◌, Some, map};
-ghost use Rattle.cli.specs.Refused.{name_of, named_text};
+ghost use Rattle.std.specs.Option.{option_map};
+ghost use Rattle.cli.specs.Refused.{field_at, name_of, named_text};
 ghost use Rattle.sources.specs.Pieces.{bytes_of};
 
 use sources::fault::Refusal;
@@ -43,18 +44,25 @@ pub struct Named<'a> {
     pub fields: &'a [&'a str],
 }
 
+// The name of the field with this number.
+fn field_at<'a>(fields: &[&'a str], number: u32) -> Option<&'a str>
+    ensures { result ≡ field_at fields.now number }
+{
+    let index = (number as usize).checked_sub(1)?;
+    fields.get(index).copied()
+}
+
 impl<'a> Named<'a> {
     // The name of the field that the refusal is of.
     fn field(&self) -> Option<&'a str>
-        ensures { result ≡ name_of self.now.fields.now self.now.refusal.field }
+        ensures { option_map bytes_of result ≡ name_of (map bytes_of self.now.fields.now) self.now.refusal.field }
     {
-        let index = (self.refusal.field as usize).checked_sub(1)?;
-        self.fields.get(index).copied()
+        field_at(self.fields, self.refusal.field)
     }
 }
 
 impl Display for Named<'_> {
-    ghost output = { λ n. Some (named_text n.fields.now n.refusal) };
+    ghost output = { λ n. Some (named_text (map bytes_of n.fields.now) n.refusal) };
 
     fn fmt<W: fmt::Write>(&self, f: &mut Formatter<W>) -> fmt::Result {
         match self.field() {

@@ -1,4 +1,5 @@
+pub mod InTurn
+pub mod NamesLemmas
 pub mod Rows
-pub mod Lengths
 pub mod Words
 pub mod Reading

@@ -2,11 +2,12 @@
 use Rattle.std.proofs.Common.{◌≡◌, ◌∙◌, ap, ap₂, subst, sym, refl, Bor, List, [], ◌∷◌, ◌++◌, map, ℕ, ◌<◌, ◌⊎◌, false, length, take, get_or, Option, Some, None, Result, Err, MatchResult, inl, inr}
 use Rattle.std.proofs.lemmas.List.{map-append, get_or_default}
 use Rattle.sources.specs.Pieces.{bytes_of, case_of}
-use Rattle.packlist.specs.Script.{IsScript, IsNoScript, IsWrongLine, Word, Read, lines_in, numbered, AreWords, next, nothing_read, read_by, with_line, with_lines, words_of}
+use Rattle.packlist.specs.Script.{IsScript, IsNoScript, IsWrongLine, Read, lines_in, numbered, AreWords, next, nothing_read, read_by, with_line, with_lines, words_of}
+use Rattle.packlist.specs.Names.{Word}
 use Rattle.packlist.specs.declared.script.Draft.{Draft}
 use Rattle.packlist.specs.declared.script.Script.{Script}
-use Rattle.packlist.specs.declared.script.Fault.{Fault}
-use Rattle.packlist.specs.declared.script.Mistake.TheVariants as mistake
+use Rattle.packlist.specs.declared.mistake.Fault.{Fault}
+use Rattle.packlist.specs.declared.mistake.Mistake.TheVariants as mistake
 use Rattle.sources.specs.Utf8.{is_utf8}
 
 itself : (o : Option Read) → case_of o None (λ r. Some r) ≡ o

@@ -1,3 +1,5 @@
 pub mod Files
+pub mod Names
+pub mod Outcomes
 pub mod Report
 pub mod Script

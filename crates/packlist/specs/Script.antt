@@ -2,7 +2,6 @@
 use Rattle.std.specs.Prelude.{◌≡◌, ◌⊎◌, ℕ, ◌+◌, ◌-◌, ◌^◌, ◌<◌, min, Bool, false, take, get_or, cond, nat_lt, ◌==◌, length, List, [], ◌∷◌, ◌++◌, filter, map, slice_index, ℤ, Option, Some, None, is_some, is_none, Ok, Err, Result, codes}
 use Rattle.std.specs.Char.{is_ascii_whitespace}
 use Rattle.std.specs.List.{slice_split}
-use Rattle.std.specs.Borrow.{Bor}
 use Rattle.std.specs.Str.{bytes_eq}
 use Rattle.sources.specs.Number.{unsigned, signed}
 use Rattle.sources.specs.declared.fault.NumberFault.{NumberFault}
@@ -10,19 +9,17 @@ use Rattle.sources.specs.declared.number.Radix.TheVariants.{Decimal}
 use Rattle.sources.specs.Pieces.{bytes_of, case_of}
 use Rattle.runs.specs.declared.call.Call.{Call}
 use Rattle.runs.specs.declared.call.Call.TheVariants.{Measure, Admit, Remeasure, Note, Bound, Release, Look, Used}
-use Rattle.sources.specs.declared.input.Form.TheVariants.{Plain, Recording}
-use Rattle.packlist.specs.declared.script.TextFile.{TextFile}
+use Rattle.cli.specs.TextFile.{file_of}
+use Rattle.cli.specs.declared.text_file.TextFile.{TextFile}
+use Rattle.packlist.specs.Names.{Word, latest_of}
 use Rattle.packlist.specs.declared.script.Line.{Line}
 use Rattle.packlist.specs.declared.script.Limit.{Limit}
 use Rattle.packlist.specs.declared.script.Draft.{Draft}
 use Rattle.packlist.specs.declared.script.Script.{Script}
-use Rattle.packlist.specs.declared.script.Fault.{Fault}
+use Rattle.packlist.specs.declared.mistake.Fault.{Fault}
 use Rattle.sources.specs.Utf8.{is_utf8}
-use Rattle.packlist.specs.declared.script.Mistake.{Mistake}
-use Rattle.packlist.specs.declared.script.Mistake.TheVariants as mistake
-
-abbrev pub Word : Type 0
-Word = Bor (List ℕ)
+use Rattle.packlist.specs.declared.mistake.Mistake.{Mistake}
+use Rattle.packlist.specs.declared.mistake.Mistake.TheVariants as mistake
 
 -- What came out, if anything did.
 abbrev pub came : {X E : Type 0} → Result X E → Option X
@@ -39,21 +36,6 @@ bytes_in w = or_mistake (unsigned 64 Decimal w.now) (mistake.Bytes w)
 
 abbrev pub pid_in : Word → Result ℤ Mistake
 pid_in w = or_mistake (signed 31 Decimal w.now) (mistake.Pid w)
-
--- The file that words name: its path, behind the word `recording` or alone.
-abbrev pub file_of : List Word → Option TextFile
-file_of [] = None
-file_of (path ∷ []) = Some (record { form = Plain; path = path })
-file_of (first ∷ path ∷ []) = cond (bytes_eq first.now (codes "recording")) (Some (record { form = Recording; path = path })) None
-file_of (first ∷ path ∷ other ∷ more) = None
-
--- The number of the latest of the names that is this one.
-abbrev pub latest_from : ℕ → Option ℕ → List Word → List ℕ → Option ℕ
-latest_from i best [] name = best
-latest_from i best (n ∷ ns) name = latest_from (i + 1) (cond (bytes_eq n.now name) (Some i) best) ns name
-
-abbrev pub latest_of : List Word → List ℕ → Option ℕ
-latest_of names name = latest_from 0 None names name
 
 -- What a name and the words behind it ask for, with the names of the measures above; None where they ask for nothing.
 abbrev pub measure_asked : List Word → Option (Call TextFile)
@@ -145,7 +127,7 @@ limit_by None = None
 limit_by (Some l) = Some (l.words.items, l.bytes)
 
 abbrev pub read_by : Draft → Read
-read_by d = record { limit = limit_by d.limit; names = d.names.items; lines = map asked_by d.lines.items }
+read_by d = record { limit = limit_by d.limit; names = d.names; lines = map asked_by d.lines.items }
 
 -- The number of the line after one; it stops at the largest of 64 bits.
 abbrev pub next : ℕ → ℕ

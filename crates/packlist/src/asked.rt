@@ -3,26 +3,17 @@ ghost use Rattle.std.specs.Prelude.{Some};
 ghost use Rattle.packlist.specs.Report.{asked_text, others_text, words_text};
 
 use crate::script::Script;
+use cli::escaped::Escaped;
+use cli::width::width;
 use std::fmt;
 use std::fmt::{Display, Formatter};
 
 // Words of more characters than this move no other line's result.
 const WIDEST: usize = 48;
 
-// Words, with a space between two.
+// Words with escapes, and with a space between two.
 #[derive(Clone, Copy)]
 struct Words<'a>(&'a [&'a str]);
-
-impl Words<'_> {
-    // How many characters are printed of them.
-    fn width(&self) -> usize {
-        let mut width = self.0.len().saturating_sub(1);
-        for word in self.0 {
-            width = width.saturating_add(word.chars().count());
-        }
-        width
-    }
-}
 
 impl Display for Words<'_> {
     ghost output = { λ w. Some (words_text w.0.now) };
@@ -30,7 +21,7 @@ impl Display for Words<'_> {
     fn fmt<W: fmt::Write>(&self, f: &mut Formatter<W>) -> fmt::Result {
         match self.0 {
             [] => Ok(()),
-            [first, others @ ..] => write!(f, "{first}{}", Others(others)),
+            [first, others @ ..] => write!(f, "{}{}", Escaped(first), Others(others)),
         }
     }
 }
@@ -44,7 +35,7 @@ impl Display for Others<'_> {
 
     fn fmt<W: fmt::Write>(&self, f: &mut Formatter<W>) -> fmt::Result {
         for word in self.0 {
-            write!(f, " {word}")?;
+            write!(f, " {}", Escaped(word))?;
         }
         Ok(())
     }
@@ -63,7 +54,7 @@ impl<'a> Asked<'a> {
         let words = Words(words);
         Asked {
             words,
-            spaces: column.saturating_sub(words.width()),
+            spaces: column.saturating_sub(width(&words)),
         }
     }
 }
@@ -82,7 +73,7 @@ impl Display for Asked<'_> {
 
 // The width of a line's words; 0 where they are too wide for the column.
 fn width_in_column(words: &[&str]) -> usize {
-    let width = Words(words).width();
+    let width = width(&Words(words));
     if width <= WIDEST { width } else { 0 }
 }
 

@@ -4,32 +4,17 @@ ghost use Rattle.runs.specs.Run.{textual};
 ghost use Rattle.sources.specs.Inputs.{text_in};
 ghost use Rattle.packlist.specs.Files.{call_with, calls_of};
 
-use crate::script::{Fault, Line, Mistake, TextFile, at_line};
+use crate::mistake::{Fault, Mistake, at_line};
+use crate::script::Line;
+use cli::text_file::TextFile;
 use runs::call::Call;
-use sources::input::{Form, Input};
+use sources::input::Input;
 use sources::source::Source;
 use std::alloc::Global;
-use std::fs::File;
-use std::io;
-use std::io::Read;
 use std::rt::Files;
 
-// As far as a reading can look: the longest text, and one piece more.
-const MOST: u64 = 268_435_456 + 4_096;
-
-// A text is read as far as its length matters, and a recording whole.
-fn read_file(rt: &(impl Files + AllocGlobal), file: TextFile<'_>) -> io::Result<Vec<u8>> {
-    let mut bytes = Vec::new(rt.alloc());
-    let mut opened = File::open(rt, file.path)?;
-    match file.form {
-        Form::Plain => opened.take(MOST).read_to_end(&mut bytes)?,
-        Form::Recording => opened.read_to_end(&mut bytes)?,
-    };
-    Ok(bytes)
-}
-
-// The file that a call names.
-fn file_of<'a>(call: &Call<TextFile<'a>>) -> Option<TextFile<'a>> {
+/// The file that a call names.
+pub fn file_of<'a>(call: &Call<TextFile<'a>>) -> Option<TextFile<'a>> {
     match call {
         Call::Measure { text } | Call::Note { text, .. } | Call::Bound { text, .. } => Some(*text),
         _ => None,
@@ -44,13 +29,12 @@ fn read_text<'a>(
     let Some(file) = file_of(call) else {
         return Ok(Vec::new(rt.alloc()));
     };
-    read_file(rt, file).map_err(|error| Mistake::Unread {
-        path: file.path,
-        error,
-    })
+    let path = file.path;
+    file.read(rt)
+        .map_err(|error| Mistake::Unread { path, error })
 }
 
-// The texts of lines, one for each.
+/// The texts of lines, one for each.
 pub fn read_texts<'a>(
     rt: &(impl Files + AllocGlobal),
     lines: &[Line<'a>],
@@ -108,7 +92,7 @@ fn with_text<'a, 'b>(
     })
 }
 
-// The calls of the run: that of each line, and after it one that asks what is used.
+/// The calls of the run: that of each line, and after it one that asks what is used.
 pub fn calls<'a, 'b>(
     alloc: Global,
     lines: &[Line<'a>],

@@ -1,61 +1,22 @@
 // What is printed of an answer, and of what is used of a limit.
-ghost use Rattle.std.specs.Prelude.{◌≡◌, ◌<◌, ◌≤◌, ◌^◌, [], Some, MatchOption};
-ghost use Rattle.packlist.specs.Report.{readable, in_unit, size_text, room_text, totals_text, refusal_text, limit_text, kilobytes_text, status_text, bounds_text, view_text, answer_text};
+ghost use Rattle.std.specs.Prelude.{◌≡◌, ◌+◌, ◌-◌, Some, map};
+ghost use Rattle.sources.specs.Pieces.{bytes_of};
+ghost use Rattle.packlist.specs.Report.{bounds_text, excess_of, excess_text, fields_of, kilobytes_text, limit_text, room_text, row_text, status_text, told_text, totals_text, view_text};
 
+use crate::asked::Asked;
+use crate::outcomes::Outcome;
+use cli::fields::{LIMITS_FIELDS, STATUS_FIELDS};
+use cli::refused::Named;
+use cli::size::Size;
+use cli::text_file::TextFile;
 use kinds::measure::Figures;
 use limits::limit::LimitValue;
 use packing::place::{Bounds, Noted, View};
-use runs::call::Answer;
+use runs::call::{Answer, Call};
 use sources::fault::Refusal;
+use sources::reason::Reason;
 use std::fmt;
 use std::fmt::{Display, Formatter};
-
-const KIB: u64 = 1 << 10;
-
-const MIB: u64 = 1 << 20;
-
-const GIB: u64 = 1 << 30;
-
-const TIB: u64 = 1 << 40;
-
-const PIB: u64 = 1 << 50;
-
-const EIB: u64 = 1 << 60;
-
-// The largest unit that a number of bytes has one of, and its name.
-fn unit_of(bytes: u64) -> Option<(u64, &'static str)>
-    ensures { MatchOption result (readable bytes ≡ []) (λ u. (0 < u.0) × (u.0 ≤ 2 ^ 60) × (readable bytes ≡ in_unit u.0 u.1.now bytes)) }
-{
-    match bytes {
-        EIB.. => Some((EIB, "EiB")),
-        PIB.. => Some((PIB, "PiB")),
-        TIB.. => Some((TIB, "TiB")),
-        GIB.. => Some((GIB, "GiB")),
-        MIB.. => Some((MIB, "MiB")),
-        KIB.. => Some((KIB, "KiB")),
-        _ => None,
-    }
-}
-
-// A number of bytes, and in parentheses the same for people.
-#[derive(Clone, Copy)]
-struct Size(u64);
-
-impl Display for Size {
-    ghost output = { λ s. Some (size_text s.0) };
-
-    fn fmt<W: fmt::Write>(&self, f: &mut Formatter<W>) -> fmt::Result {
-        let bytes = self.0;
-        match unit_of(bytes) {
-            Some((unit, name)) => {
-                let whole = bytes / unit;
-                let tenths = bytes % unit * 10 / unit;
-                write!(f, "{bytes} ({whole}.{tenths} {name})")
-            }
-            None => write!(f, "{bytes}"),
-        }
-    }
-}
 
 // What is used of a limit, and what is left of it.
 #[derive(Clone, Copy)]
@@ -70,9 +31,16 @@ impl Display for Room {
     fn fmt<W: fmt::Write>(&self, f: &mut Formatter<W>) -> fmt::Result {
         let Room { limit, used } = *self;
         if used <= limit {
-            write!(f, "used {}, left {}", Size(used), Size(limit - used))
+            let left = limit - used;
+            write!(f, "used {}, left {}", Size(used.into()), Size(left.into()))
         } else {
-            write!(f, "used {}, over by {}", Size(used), Size(used - limit))
+            let over = used - limit;
+            write!(
+                f,
+                "used {}, over by {}",
+                Size(used.into()),
+                Size(over.into())
+            )
         }
     }
 }
@@ -89,30 +57,6 @@ impl Display for Totals {
             f,
             "mappings {mappings} rss {rss} pss {pss} swappss {swap_pss}"
         )
-    }
-}
-
-// A refusal, without the line and the field that it is not of.
-#[derive(Clone, Copy)]
-struct Refused(Refusal);
-
-impl Display for Refused {
-    ghost output = { λ r. Some (refusal_text r.0) };
-
-    fn fmt<W: fmt::Write>(&self, f: &mut Formatter<W>) -> fmt::Result {
-        let Refusal {
-            reason,
-            line,
-            field,
-        } = self.0;
-        write!(f, "refused {} {}", reason.number(), reason.word())?;
-        if line > 0 {
-            write!(f, " line {line}")?;
-        }
-        if field > 0 {
-            write!(f, " field {field}")?;
-        }
-        Ok(())
     }
 }
 
@@ -199,31 +143,114 @@ impl Display for Seen {
             "headroom {} {} charge {} {} {}",
             view.headroom,
             Totals(view.mappings, view.totals),
-            Size(view.charge),
+            Size(view.charge.into()),
             Status(view.noted),
             Limits(view.bounds)
         )
     }
 }
 
-// What a call was answered.
-#[derive(Clone, Copy)]
-pub struct Told(pub Answer);
+// The names of the fields of the text that a call reads.
+fn fields_of<T>(call: &Call<T>) -> &'static [&'static str]
+    ensures { map bytes_of result.now ≡ fields_of call.now }
+{
+    match call {
+        Call::Note { .. } => &STATUS_FIELDS,
+        Call::Bound { .. } => &LIMITS_FIELDS,
+        _ => &[],
+    }
+}
 
-impl Display for Told {
-    ghost output = { λ t. Some (answer_text t.0) };
+// By how much a charge would pass the limit, where it is refused for that: of an admit, which has the headroom.
+#[derive(Clone, Copy)]
+struct Excess(Option<u128>);
+
+impl Display for Excess {
+    ghost output = { λ e. Some (excess_text e.0) };
 
     fn fmt<W: fmt::Write>(&self, f: &mut Formatter<W>) -> fmt::Result {
         match self.0 {
+            Some(bytes) => write!(f, " by {}", Size(bytes)),
+            None => Ok(()),
+        }
+    }
+}
+
+/// What a call was answered, on a list of this limit of which so much is used.
+#[derive(Clone, Copy)]
+pub struct Told<'a> {
+    pub call: &'a Call<TextFile<'a>>,
+    pub outcome: Outcome,
+    pub limit: u64,
+}
+
+// By how much a charge of these totals and this headroom would pass the limit, where so much is used.
+fn past(limit: u64, used: u64, headroom: u64, totals: Figures) -> u128
+    ensures { result ≡ used + (totals.pss + totals.swap_pss + headroom) - limit }
+{
+    let charge = u128::from(totals.pss) + u128::from(totals.swap_pss) + u128::from(headroom);
+    (u128::from(used) + charge).saturating_sub(u128::from(limit))
+}
+
+impl Told<'_> {
+    // By how much a measure of these totals would pass the limit, if it was refused for that.
+    fn excess(&self, refusal: Refusal, totals: Figures) -> Excess
+        ensures { result.0 ≡ excess_of self.now.limit self.now.call.now self.now.outcome.used refusal.reason totals }
+    {
+        match (self.call, refusal.reason) {
+            (Call::Admit { headroom, .. }, Reason::Over) => Excess(Some(past(
+                self.limit,
+                self.outcome.used,
+                *headroom,
+                totals,
+            ))),
+            _ => Excess(None),
+        }
+    }
+}
+
+impl Display for Told<'_> {
+    ghost output = { λ t. Some (told_text t.limit t.call.now t.outcome) };
+
+    fn fmt<W: fmt::Write>(&self, f: &mut Formatter<W>) -> fmt::Result {
+        match self.outcome.answer {
             Answer::Missing => f.write_str("no such measure in hand"),
             Answer::Made { mappings, totals } => write!(f, "{}", Totals(mappings, totals)),
             Answer::Done => f.write_str("done"),
-            Answer::Refused(refusal) => write!(f, "{}", Refused(refusal)),
-            Answer::Handed { refusal, .. } => {
-                write!(f, "{}, measure handed back", Refused(refusal))
+            Answer::Refused(refusal) => {
+                let fields = fields_of(self.call);
+                write!(f, "{}", Named { refusal, fields })
+            }
+            Answer::Handed {
+                refusal,
+                totals,
+                ..
+            } => {
+                let excess = self.excess(refusal, totals);
+                write!(f, "{refusal}{excess}, measure handed back")
             }
             Answer::Seen(view) => write!(f, "{}", Seen(view)),
-            Answer::Total(used) => write!(f, "{}", Size(used)),
+            Answer::Total(used) => write!(f, "{}", Size(used.into())),
         }
+    }
+}
+
+/// A line of the report: what was asked, what came of it, and what is used and left then.
+#[derive(Clone, Copy)]
+pub struct Row<'a> {
+    pub asked: Asked<'a>,
+    pub told: Told<'a>,
+}
+
+impl Display for Row<'_> {
+    ghost output = { λ r. Some (row_text r.asked.words.0.now r.asked.spaces r.told.limit r.told.call.now r.told.outcome) };
+
+    fn fmt<W: fmt::Write>(&self, f: &mut Formatter<W>) -> fmt::Result {
+        let Row { asked, told } = *self;
+        let room = Room {
+            limit: told.limit,
+            used: told.outcome.used,
+        };
+        write!(f, "{asked} {told}; {room}")
     }
 }

@@ -11,28 +11,22 @@
 //     used
 //
 // The first call is the limit, and no other is. FILE holds smaps, status or limits text; after the word `recording` it holds a recording of one. NAME is the latest measure of that name above.
-ghost use Rattle.std.specs.Prelude.{◌≡◌, ◌⊎◌, true, false, map, None, Some, Ok, Err, IfOk, MatchResult};
+ghost use Rattle.std.specs.Prelude.{◌≡◌, ◌⊎◌, true, false, map, None, Some, IfOk, MatchResult};
 ghost use Rattle.std.specs.Option.{ok_or};
-ghost use Rattle.packlist.specs.declared.script.Mistake.TheVariants as mistake;
-ghost use Rattle.packlist.specs.Script.{IsScript, IsNoScript, asked, bytes_in, came, file_of, latest_of, pid_in, read_by, with_call, with_limit, with_line, with_name, words_of};
+ghost use Rattle.packlist.specs.declared.mistake.Mistake.TheVariants as mistake;
+ghost use Rattle.packlist.specs.Script.{IsScript, IsNoScript, asked, bytes_in, came, pid_in, read_by, with_call, with_limit, with_line, with_name, words_of};
+ghost use Rattle.packlist.specs.Names.{latest_of};
 ghost use Rattle.sources.specs.Pieces.{bytes_of};
 ghost use Rattle.sources.specs.Utf8.{is_utf8};
 
+use crate::mistake::{Fault, Mistake, at_line};
+use crate::names::Names;
+use cli::text_file::TextFile;
 use runs::call::Call;
-use sources::input::Form;
 use sources::number::{FromStrRadix, Radix};
-use std::alloc::{AllocError, AllocFailed, Global};
-use std::error::Error;
-use std::{fmt, io};
+use std::alloc::{AllocError, Global};
 
-// The file of a text.
-#[derive(Clone, Copy, Debug)]
-pub struct TextFile<'a> {
-    pub form: Form,
-    pub path: &'a str,
-}
-
-// A line that asks for a call of the list, which names the files of its texts.
+/// A line that asks for a call of the list, which names the files of its texts.
 #[derive(Drop)]
 pub struct Line<'a> {
     pub number: u64,
@@ -40,7 +34,7 @@ pub struct Line<'a> {
     pub call: Call<TextFile<'a>>,
 }
 
-// The line that gives the limit.
+/// The line that gives the limit.
 #[derive(Drop)]
 pub struct Limit<'a> {
     pub words: Vec<&'a str>,
@@ -51,100 +45,6 @@ pub struct Limit<'a> {
 pub struct Script<'a> {
     pub limit: Limit<'a>,
     pub lines: Vec<Line<'a>>,
-}
-
-// What is wrong with a line.
-#[derive(Debug, Drop)]
-pub enum Mistake<'a> {
-    Utf8,
-    Unknown(&'a str),
-    // How the call is written.
-    Usage(&'static str),
-    Pid(&'a str),
-    Bytes(&'a str),
-    NoLimit,
-    SecondLimit,
-    NoMeasure(&'a str),
-    Unread { path: &'a str, error: io::Error },
-    Spool(&'a str),
-    Memory,
-}
-
-// Why a script is not run: a mistake, with the number of its line, if it is of one.
-#[derive(Debug, Drop)]
-pub struct Fault<'a> {
-    pub line: Option<u64>,
-    pub mistake: Mistake<'a>,
-}
-
-impl fmt::Display for Mistake<'_> {
-    fn fmt<W: fmt::Write>(&self, f: &mut fmt::Formatter<W>) -> fmt::Result {
-        match self {
-            Mistake::Utf8 => f.write_str("the line is not UTF-8"),
-            Mistake::Unknown(word) => write!(
-                f,
-                "no call is named `{word}`; `packlist --help` says what there is"
-            ),
-            Mistake::Usage(form) => write!(f, "the call is written `{form}`"),
-            Mistake::Pid(word) => write!(
-                f,
-                "`{word}` is no pid: that is a number from -2147483648 to 2147483647"
-            ),
-            Mistake::Bytes(word) => write!(
-                f,
-                "`{word}` is no number of bytes: that is digits alone, up to 18446744073709551615"
-            ),
-            Mistake::NoLimit => f.write_str("no limit: the first call must be `limit BYTES`"),
-            Mistake::SecondLimit => f.write_str("a second limit: only the first call is one"),
-            Mistake::NoMeasure(name) => write!(f, "no measure above is named `{name}`"),
-            Mistake::Unread { path, error } => write!(f, "`{path}` can't be read: {error}"),
-            Mistake::Spool(path) => write!(f, "`{path}` is no well-made recording"),
-            Mistake::Memory => f.write_str("out of memory"),
-        }
-    }
-}
-
-impl Error for Mistake<'_> {}
-
-impl From<AllocError> for Mistake<'_> {
-    ghost from_gives = { λ _ r. r ≡ mistake.Memory };
-
-    fn from(_error: AllocError) -> Self {
-        Mistake::Memory
-    }
-}
-
-impl<T: Drop> From<AllocFailed<T>> for Mistake<'_> {
-    ghost from_gives = { λ _ r. r ≡ mistake.Memory };
-
-    fn from(_error: AllocFailed<T>) -> Self {
-        Mistake::Memory
-    }
-}
-
-impl From<AllocError> for Fault<'_> {
-    fn from(error: AllocError) -> Self {
-        Fault {
-            line: None,
-            mistake: Mistake::from(error),
-        }
-    }
-}
-
-impl<T: Drop> From<AllocFailed<T>> for Fault<'_> {
-    fn from(error: AllocFailed<T>) -> Self {
-        Fault::from(AllocError::from(error))
-    }
-}
-
-// A mistake gains the number of its line.
-pub fn at_line<'a, T>(line: u64, outcome: Result<T, Mistake<'a>>) -> Result<T, Fault<'a>>
-    ensures { MatchResult result (λ v. outcome.entry ≡ Ok v) (λ f. (f.line ≡ Some line) × (outcome.entry ≡ Err f.mistake)) }
-{
-    outcome.map_err(|mistake| Fault {
-        line: Some(line),
-        mistake,
-    })
 }
 
 // What is wrong with a call that has not the words it needs.
@@ -175,33 +75,11 @@ fn read_pid<'a>(word: &'a str) -> Result<i32, Mistake<'a>>
     FromStrRadix::from_str_radix(word, Radix::Decimal).map_err(|_| Mistake::Pid(word))
 }
 
-fn text_file<'a>(words: &[&'a str]) -> Option<TextFile<'a>>
-    ensures { result ≡ file_of words.now }
-{
-    match words {
-        [path] => Some(TextFile {
-            form: Form::Plain,
-            path,
-        }),
-        ["recording", path] => Some(TextFile {
-            form: Form::Recording,
-            path,
-        }),
-        _ => None,
-    }
-}
-
 // The number of the latest measure of a name.
-fn latest<'a>(names: &[&'a str], name: &'a str) -> Result<usize, Mistake<'a>>
+fn latest<'a>(names: &Names<'a>, name: &'a str) -> Result<usize, Mistake<'a>>
     ensures { result ≡ ok_or (latest_of names.now name.now) (mistake.NoMeasure name.entry) }
 {
-    let mut latest = None;
-    for i in 0..names.len() {
-        if names[i] == name {
-            latest = Some(i);
-        }
-    }
-    latest.ok_or(Mistake::NoMeasure(name))
+    names.latest(name).ok_or(Mistake::NoMeasure(name))
 }
 
 // The call that a name and the words behind it ask for, with the names of the measures above.
@@ -209,7 +87,7 @@ fn latest<'a>(names: &[&'a str], name: &'a str) -> Result<usize, Mistake<'a>>
 fn read_call<'a>(
     name: &'a str,
     words: &[&'a str],
-    names: &[&'a str],
+    names: &Names<'a>,
 ) -> Result<Call<TextFile<'a>>, Mistake<'a>>
     ensures { came result ≡ asked name.entry words.now names.now }
 {
@@ -219,7 +97,7 @@ fn read_call<'a>(
                 return Err(misuse(name));
             };
             Ok(Call::Measure {
-                text: text_file(file).ok_or(misuse(name))?,
+                text: TextFile::from_words(file).ok_or(misuse(name))?,
             })
         }
         "admit" => {
@@ -247,7 +125,7 @@ fn read_call<'a>(
             };
             Ok(Call::Note {
                 pid: read_pid(job)?,
-                text: text_file(file).ok_or(misuse(name))?,
+                text: TextFile::from_words(file).ok_or(misuse(name))?,
             })
         }
         "bound" => {
@@ -256,7 +134,7 @@ fn read_call<'a>(
             };
             Ok(Call::Bound {
                 pid: read_pid(job)?,
-                text: text_file(file).ok_or(misuse(name))?,
+                text: TextFile::from_words(file).ok_or(misuse(name))?,
             })
         }
         "release" => {
@@ -290,7 +168,7 @@ fn read_call<'a>(
 struct Draft<'a> {
     alloc: Global,
     limit: Option<Limit<'a>>,
-    names: Vec<&'a str>,
+    names: Names<'a>,
     lines: Vec<Line<'a>>,
 }
 
@@ -315,11 +193,11 @@ fn words_in<'a>(alloc: Global, line: &'a [u8]) -> Result<Vec<&'a str>, Mistake<'
 
 // The name of a measure, where the call is one.
 fn put_name<'a>(
-    names: &mut Vec<&'a str>,
+    names: &mut Names<'a>,
     call: &Call<TextFile<'a>>,
     words: &[&'a str],
 ) -> Result<(), AllocError>
-    ensures { IfOk result (λ _. names.new.items ≡ with_name call.now words.now names.old.items) }
+    ensures { IfOk result (λ _. names.new ≡ with_name call.now words.now names.old) }
 {
     let Call::Measure { .. } = call else {
         return Ok(());
@@ -327,7 +205,7 @@ fn put_name<'a>(
     let [name, ..] = words else {
         return Ok(());
     };
-    Ok(names.push(name)?)
+    names.push(name)
 }
 
 impl<'a> Draft<'a> {
@@ -354,7 +232,7 @@ impl<'a> Draft<'a> {
         if self.limit.is_none() {
             return Err(Mistake::NoLimit);
         }
-        let call = read_call(name, others, self.names.as_slice())?;
+        let call = read_call(name, others, &self.names)?;
         put_name(&mut self.names, &call, others)?;
         self.lines.push(Line {
             number,
@@ -383,7 +261,7 @@ pub fn parse<'a>(alloc: Global, text: &'a [u8]) -> Result<Script<'a>, Fault<'a>>
     let mut draft = Draft {
         alloc,
         limit: None,
-        names: Vec::new(alloc),
+        names: Names::new(alloc),
         lines: Vec::new(alloc),
     };
     let mut number = 0u64;

@@ -6,7 +6,7 @@ use Rattle.sources.specs.Pieces.{bytes_of}
 use Rattle.packlist.specs.Script.{lines_in, limit_by, next, read_by, with_line, words_of}
 use Rattle.packlist.proofs.Reading.{faulted, refused, turn, wrong}
 use Rattle.sources.specs.Utf8.{is_utf8}
-use Rattle.packlist.specs.declared.script.Mistake.TheVariants as mistake
+use Rattle.packlist.specs.declared.mistake.Mistake.TheVariants as mistake
 use Rattle.packlist.proofs.script.parse.Goals as goal
 
 pub loop-line-preserved : goal.loop-line-preserved
