@@ -3,6 +3,7 @@ use crate::files::file_of;
 use crate::script::Line;
 use cli::escaped::Escaped;
 use cli::pulled::{Ending, Pulled};
+use cli::sign::Sign;
 use cli::text_file::TextFile;
 use runs::call::Call;
 use sources::drive::MAX_TEXT;
@@ -10,16 +11,6 @@ use sources::input::Input;
 use std::alloc::{AllocError, Global};
 use std::fmt;
 use std::fmt::{Display, Formatter};
-
-/// What a text looks like whose process may have ended.
-#[derive(Clone, Copy, Debug, PartialEq, Eq)]
-pub enum Sign {
-    /// An smaps text without a mapping.
-    NothingMapped,
-    /// Another text without a byte.
-    Empty,
-    MidLine,
-}
 
 /// A sign that a text bears, with the path of its file.
 #[derive(Clone, Copy, Debug)]
@@ -30,26 +21,7 @@ pub struct Warning<'a> {
 
 impl Display for Warning<'_> {
     fn fmt<W: fmt::Write>(&self, f: &mut Formatter<W>) -> fmt::Result {
-        let sign = match self.sign {
-            Sign::NothingMapped => "nothing is mapped",
-            Sign::Empty => "it is empty",
-            Sign::MidLine => "breaks off in the middle of a line",
-        };
-        write!(
-            f,
-            "{}: {sign}: the process may have ended",
-            Escaped(self.path)
-        )
-    }
-}
-
-// The sign that a text bears which a call reads, and which ends so.
-fn sign_of<T>(call: &Call<T>, ending: Ending) -> Option<Sign> {
-    match (call, ending) {
-        (_, Ending::Whole) => None,
-        (_, Ending::MidLine) => Some(Sign::MidLine),
-        (Call::Measure { .. }, Ending::Empty) => Some(Sign::NothingMapped),
-        (_, Ending::Empty) => Some(Sign::Empty),
+        write!(f, "{}: {}", Escaped(self.path), self.sign)
     }
 }
 
@@ -75,8 +47,9 @@ pub fn find_warning<'a>(
         return Ok(None);
     };
     let path = file.path;
+    let maps = matches!(&line.call, Call::Measure { .. });
     Ok(match ending(alloc, file, bytes)? {
-        Some(ending) => sign_of(&line.call, ending).map(|sign| Warning { path, sign }),
+        Some(ending) => Sign::of(ending, maps).map(|sign| Warning { path, sign }),
         None => None,
     })
 }
@@ -92,17 +65,17 @@ mod tests {
         for (path, sign, said) in [
             (
                 "web.smaps",
-                Sign::NothingMapped,
+                Sign::Unmapped,
                 "web.smaps: nothing is mapped: the process may have ended",
             ),
             (
                 "web.status",
                 Sign::Empty,
-                "web.status: it is empty: the process may have ended",
+                "web.status: is empty: the process may have ended",
             ),
             (
                 "we\tb",
-                Sign::MidLine,
+                Sign::BreaksOff,
                 "we\\x09b: breaks off in the middle of a line: the process may have ended",
             ),
         ] {
@@ -110,16 +83,5 @@ mod tests {
             assert_eq!(rt; text.as_str(), said);
         }
         Ok(())
-    }
-
-    // Which texts bear a sign.
-    #[test]
-    fn signs(rt: HostRuntime) {
-        let measure = Call::Measure { text: () };
-        let note = Call::Note { pid: 1, text: () };
-        assert_eq!(rt; sign_of(&measure, Ending::Empty), Some(Sign::NothingMapped));
-        assert_eq!(rt; sign_of(&note, Ending::Empty), Some(Sign::Empty));
-        assert_eq!(rt; sign_of(&note, Ending::MidLine), Some(Sign::MidLine));
-        assert_eq!(rt; sign_of(&measure, Ending::Whole), None);
     }
 }
