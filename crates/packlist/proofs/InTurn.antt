@@ -1,9 +1,8 @@
 -- Each line is answered once, and what is used is told after each.
-use Rattle.std.proofs.Common.{◌≡◌, ◌∙◌, ap, refl, suc, List, [], ◌∷◌, length, arith}
+use Rattle.std.proofs.Common.{◌≡◌, ap, refl, suc, List, [], ◌∷◌, length, arith}
 use Rattle.sources.specs.Texts.{Text}
 use Rattle.packing.specs.Places.{used}
 use Rattle.runs.specs.declared.call.Call.{Call}
-use Rattle.runs.specs.declared.call.Call.TheVariants.{Used}
 use Rattle.runs.specs.declared.call.Answer.TheVariants.{Total}
 use Rattle.runs.specs.Run.{RunState, served, answers}
 use Rattle.packlist.specs.Files.{calls_of, calls_with}

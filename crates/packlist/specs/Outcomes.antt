@@ -1,5 +1,5 @@
 -- What came of each call of a row, with what is used after it.
-use Rattle.std.specs.Prelude.{ℕ, List, [], ◌∷◌, Option, Some, None}
+use Rattle.std.specs.Prelude.{ℕ, List, [], ◌∷◌}
 use Rattle.sources.specs.Texts.{Text}
 use Rattle.packing.specs.Calls.{new_list}
 use Rattle.packing.specs.Places.{used}

@@ -1,8 +1,8 @@
 use Rattle.std.proofs.Common.{rules, ◌≡◌, ◌∙◌, ap, length, [], vec_len}
 use Rattle.packing.specs.Calls.{new_list}
 use Rattle.runs.specs.Run.{answers_of}
-use Rattle.packlist.specs.Files.{call_with, calls_of, calls_with}
-use Rattle.packlist.specs.Outcomes.{in_turn, outcomes_of, paired}
+use Rattle.packlist.specs.Files.{call_with, calls_of}
+use Rattle.packlist.specs.Outcomes.{in_turn, paired}
 use Rattle.packlist.proofs.InTurn.{in_turn-outcomes, length-outcomes, paired-answers}
 use Rattle.packlist.proofs.run_script.Goals as goal
 
