@@ -1,9 +1,10 @@
 ghost use Rattle.std.specs.Prelude.{◌≡◌, ◌<◌, ℕ, [], ◌∷◌, map, length, slice_index, nat_le, IfSome, MatchOption};
 ghost use Rattle.std.specs.List.{prefix_len};
-ghost use Rattle.std.specs.Option.{is_some};
+ghost use Rattle.std.specs.Option.{is_some, option_map};
 ghost use Rattle.std.specs.Simd.Lanes.{mask_l};
+ghost use Rattle.sources.specs.Pieces.{bytes_of_2};
 ghost use Rattle.sources.specs.White.{nth};
-ghost use Rattle.sources.specs.Words.{ascii_words, in_word};
+ghost use Rattle.sources.specs.Words.{ascii_words, in_word, skipped, next_word};
 
 use crate::pieces::strip_prefix;
 use std::simd::prelude::*;
@@ -53,7 +54,7 @@ fn word_len(text: &[u8]) -> usize
 // The text without eight spaces at a time in front, as long as there are so many: figures stand in columns, behind gaps.
 #[tactic(auto, using(crate::proofs::Cut::eight_passed))]
 fn past_gap(text: &str) -> &str
-    ensures { ascii_words result.now ≡ ascii_words text.now }
+    ensures { skipped result.now ≡ skipped text.now }
 {
     let mut rest = text;
     while let Some(more) = strip_prefix(rest, "        ") {
@@ -64,7 +65,8 @@ fn past_gap(text: &str) -> &str
 
 /// The first word between ASCII white bytes, and what follows it. A reader of lines asks for few words of many, and `split_ascii_whitespace` stops at each white byte.
 pub fn next_word(text: &str) -> Option<(&str, &str)>
-    ensures { MatchOption result (ascii_words text.now ≡ []) (λ p. ascii_words text.now ≡ p.0.now ∷ ascii_words p.1.now) }
+    ensures defined { option_map bytes_of_2 result ≡ next_word text.now }
+    ensures words { MatchOption result (ascii_words text.now ≡ []) (λ p. ascii_words text.now ≡ p.0.now ∷ ascii_words p.1.now) }
 {
     let rest = past_gap(text).trim_ascii_start();
     if rest.is_empty() {
