@@ -41,16 +41,21 @@ fn key_of(name: &str) -> Option<Key>
 }
 
 // What an attribute line sets. A line of flags sets no key, and is not read further.
+// A match, and no `?` or `map`: what these make in between is written to memory and read again, of each line.
 fn setting_of(line: &str) -> Result<Option<Setting>, Fault>
     ensures { result ≡ setting_of line.now }
 {
     if strip_prefix(line, "VmFlags").is_some() {
         return Ok(None);
     }
-    let Some(Attribute { key, amount }) = Attribute::from_line(line)? else {
-        return Ok(None);
-    };
-    Ok(key_of(key).map(|key| Setting { key, amount }))
+    match Attribute::from_line(line) {
+        Ok(Some(Attribute { key, amount })) => match key_of(key) {
+            Some(key) => Ok(Some(Setting { key, amount })),
+            None => Ok(None),
+        },
+        Ok(None) => Ok(None),
+        Err(f) => Err(f),
+    }
 }
 
 // Whether the first byte is one of A to Z.

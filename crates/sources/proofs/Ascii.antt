@@ -1,6 +1,9 @@
 -- Bytes that are ASCII: sixteen at once, and loads that cover a text.
-use Rattle.std.proofs.Common.{◌≡◌, ℕ, ◌+◌, ◌-◌, ◌%◌, ◌^◌, ◌<◌, ◌≤◌, true, not, cond, eqb, nat_le, List, map, length, get_or, replicate, bit_or, sym, ap, subst, ◌∙◌, inl, inr, arith, w8, eqb-true}
+use Rattle.std.proofs.Common.{◌≡◌, ℕ, ◌+◌, ◌-◌, ◌%◌, ◌^◌, ◌<◌, ◌≤◌, zero, suc, true, not, cond, eqb, nat_le, List, [], ◌∷◌, map, length, get_or, replicate, bit_or, sym, ap, subst, ◌∙◌, inl, inr, arith, w8, eqb-true}
+use Rattle.std.specs.Char.{is_ascii}
+use Rattle.std.specs.List.{list_all}
 use Rattle.std.specs.Str.{IsAscii}
+use Rattle.std.proofs.lemmas.Bool.{and_parts}
 use Rattle.std.proofs.lemmas.Bool.{cases_lt}
 use Rattle.std.proofs.lemmas.Bool.Decides.{nat_tests}
 use Rattle.std.proofs.lemmas.List.{get_or_past, length-map}
@@ -9,6 +12,12 @@ use Rattle.std.proofs.lemmas.Nat.{and_le_l, and_le_r}
 use Rattle.std.proofs.lemmas.Simd.{tops_compared, zip2_splat_left, mask_l-mod, leading_from_mask_l, get_or-zip2, length-chunk, get_or-chunk}
 use lib.Bits.{or_add_and}
 use lib.Lanes.{chunk, mask_l, top, zip2}
+
+-- where each byte is ASCII
+pub all_small : (bs : List ℕ) → list_all is_ascii bs ≡ true → IsAscii bs
+all_small [] h i = omega arith
+all_small (b ∷ bs) h zero = let p = and_parts (is_ascii b) (list_all is_ascii bs) h in grind (arith, nat_tests)
+all_small (b ∷ bs) h (suc i) = all_small bs (and_parts (is_ascii b) (list_all is_ascii bs) h).1 i
 
 small : (b : ℕ) → not (nat_le 128 b) ≡ true → b < 128
 small b e = grind (arith, nat_tests)

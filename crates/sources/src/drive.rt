@@ -1,4 +1,6 @@
 ghost use Rattle.std.specs.Prelude.{◌≡◌, ℕ, ◌+◌, ◌<◌, ◌≤◌, Bool, true, false, List, length, take, IsTrue, MatchOption};
+ghost use Rattle.std.specs.Char.{is_ascii};
+ghost use Rattle.std.specs.List.{list_all};
 ghost use Rattle.std.specs.Str.{IsAscii, IsUtf8};
 ghost use Rattle.sources.specs.Came.{Came};
 ghost use Rattle.sources.specs.Editions.{NewerReadsSame};
@@ -81,12 +83,19 @@ fn is_ascii(bytes: u8x16) -> bool
     bytes.simd_ge(u8x16::splat(0x80)).to_bitmask() == 0
 }
 
-// Whether a text is known to be ASCII, by 16 bytes at a time: the last 16, and those from the front up to them. A text of fewer than 16 bytes is not.
+// Whether each byte is ASCII, a byte at a time.
+fn short_ascii(text: &[u8]) -> bool
+    ensures { result ≡ list_all is_ascii text.now }
+{
+    text.iter().all(|b| *b < 128)
+}
+
+// Whether a text is known to be ASCII, by 16 bytes at a time: the last 16, and those from the front up to them. One of fewer than 16 bytes is gone through a byte at a time.
 fn known_ascii(text: &[u8]) -> bool
     ensures { IsTrue result → IsAscii text.now }
 {
     if text.len() < 16 {
-        return false;
+        return short_ascii(text);
     }
     let last = text.len() - 16;
     let mut seen = u8x16::from_slice(&text[last..]);
@@ -98,7 +107,8 @@ fn known_ascii(text: &[u8]) -> bool
     is_ascii(seen)
 }
 
-// The first n bytes as text, where they are UTF-8. Most lines are ASCII, which is told 16 bytes at a time.
+// The first n bytes as text, where they are UTF-8. Most lines are ASCII, which is told 16 bytes at a time. It stands in the loop over lines, since short ones cost little more than a call.
+#[inline(always)]
 fn line_text(buf: &[u8], n: usize) -> Option<&str>
     requires { n ≤ length buf.now }
     ensures { MatchOption result (¬ (IsUtf8 (take n buf.now))) (λ s. (s.now ≡ take n buf.now) × IsUtf8 (take n buf.now)) }

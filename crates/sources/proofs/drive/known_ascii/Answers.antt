@@ -1,6 +1,9 @@
-use Rattle.std.proofs.Common.{◌-◌, length, arith}
-use Rattle.sources.proofs.Ascii.{covers_last, covers_more, covers_all}
+use Rattle.std.proofs.Common.{◌-◌, length, sym, ◌∙◌, arith}
+use Rattle.sources.proofs.Ascii.{all_small, covers_last, covers_more, covers_all}
 use Rattle.sources.proofs.drive.known_ascii.Goals as goal
+
+pub returns-then-text-lt16 : goal.returns-then-text-lt16
+returns-then-text-lt16 c t = all_small c.args.text.now (sym c.short_ascii.ensures ∙ t)
 
 pub loop-at-init : goal.loop-at-init
 loop-at-init c = covers_last c.args.text.now (omega arith)
