@@ -5,10 +5,13 @@ mod report;
 
 ghost use Rattle.std.specs.Prelude.{◌≡◌, ◌<◌, ◌≤◌, ◌++◌, [], ◌∷◌, length, take, IfOk, IfSome, OnOk};
 ghost use Rattle.std.specs.Io.KnownBytes.{Appends, Consumes, IsAtEnd};
+ghost use Rattle.std.specs.Fmt.{with_newline};
 ghost use Rattle.std.specs.Process.{exit_status};
 ghost use Rattle.charge.specs.Report.{report_of, line_of, status_of};
 
+use arrayvec::ArrayVec;
 use report::{Charged, LONGEST, Refused, charge};
+use std::fmt::Display;
 use std::io::{Read, Write};
 use std::process::ExitCode;
 use std::{env, io};
@@ -18,6 +21,9 @@ const USAGE: &str =
                     the number and line of the refusal; the exit status is 0 or 1
 charge --help       this text
 ";
+
+// Room for the longest line: four names, a number of 32 bits and three of 64, and its end have 99 bytes.
+const LINE: usize = 128;
 
 // One byte more than an input may have.
 const ROOM: usize = LONGEST + 1;
@@ -49,6 +55,15 @@ fn charge_all<R: Read>(input: &mut R) -> io::Result<Result<Charged, Refused>>
     Ok(charge(&buf[..len]))
 }
 
+// Writes what a value is printed as, and its line's end, by one write, so that no other writer's bytes come between its parts, and no reader gets one of them alone.
+fn write_line<W: Write, D: Display + Drop>(output: &mut W, value: D) -> io::Result<()>
+    ensures { OnOk result (IfSome (with_newline (D.output value)) (Appends (W.contents output.old) (W.contents output.new))) }
+{
+    let mut line = ArrayVec::<u8, LINE>::new();
+    line.writeln(value)?;
+    output.write_all(line.as_slice())
+}
+
 // Writes the line, and answers the exit status.
 fn say<W: Write>(output: &mut W, said: Result<Charged, Refused>) -> io::Result<ExitCode>
     ensures line { OnOk result (Appends (W.contents output.old) (W.contents output.new) (line_of said ++ (10 ∷ []))) }
@@ -56,11 +71,11 @@ fn say<W: Write>(output: &mut W, said: Result<Charged, Refused>) -> io::Result<E
 {
     match said {
         Ok(charged) => {
-            output.writeln(charged)?;
+            write_line(output, charged)?;
             Ok(ExitCode::SUCCESS)
         }
         Err(refused) => {
-            output.writeln(refused)?;
+            write_line(output, refused)?;
             Ok(ExitCode::FAILURE)
         }
     }
@@ -76,7 +91,14 @@ fn run<R: Read, W: Write>(input: &mut R, output: &mut W) -> io::Result<ExitCode>
 }
 
 fn main(rt: HostRuntime) -> anyhow::Result<ExitCode> {
-    let mut args = env::args(&rt)?.skip(1);
+    let mut args = match env::args(&rt) {
+        Ok(args) => args.skip(1),
+        // Arguments that there is no memory for are not looked at: measuring takes none.
+        Err(error) if error.kind() == io::ErrorKind::OutOfMemory => {
+            return Ok(run(&mut rt.stdin(), &mut io::writer(&rt))?);
+        }
+        Err(error) => return Err(error.into()),
+    };
     let Some(first) = args.next() else {
         return Ok(run(&mut rt.stdin(), &mut io::writer(&rt))?);
     };
@@ -86,4 +108,25 @@ fn main(rt: HostRuntime) -> anyhow::Result<ExitCode> {
     }
     eprint!(rt; "{USAGE}")?;
     Ok(ExitCode::from(2))
+}
+
+#[cfg(test)]
+mod tests {
+    use super::*;
+    use std::test::Fail;
+
+    // Three totals at the cap: no clause says that so long a line finds room.
+    #[test]
+    fn long_line(rt: HostRuntime) -> Result<(), Fail> {
+        let text =
+            b"1-2 r 0 0:0 0 \nRss: 72057594037927936\nPss: 72057594037927936\nSwapPss: 72057594037927936\n";
+        let mut output = Vec::new(rt.alloc());
+        let ran = run(&mut &text[..], &mut output);
+        assert!(rt; ran.is_ok());
+        assert_eq!(rt;
+            output.as_slice(),
+            b"mappings 1 rss 72057594037927936 pss 72057594037927936 swappss 72057594037927936\n".as_slice()
+        );
+        Ok(())
+    }
 }
