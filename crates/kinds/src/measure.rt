@@ -134,34 +134,35 @@ impl Tally {
 }
 
 // What a line of a sort makes of a state, and whether that is refused. A line that changes nothing writes nothing.
+// Sorts stand before states in the match for speed: so the compiler goes from where a sort is made straight to what it does.
 fn step(state: &mut State, sort: Sort, cap: u64) -> Result<(), Fault>
     ensures next { state.new ≡ next cap state.old sort }
     ensures verdict { result ≡ verdict_of (fault_of state.new) }
 {
-    let taken = match (&mut *state, sort) {
-        (State::Refused(f), _) => return Err(*f),
-        (State::NoMapping, Sort::Attribute(_)) => Err(Fault::new(Reason::Orphan)),
-        (State::NoMapping, Sort::Mapping(Err(f))) => Err(f),
-        (State::NoMapping, Sort::Mapping(Ok(()))) => {
-            *state = State::InMapping(Tally {
-                mappings: 1,
-                ..Tally::default()
-            });
+    let taken = match (sort, &mut *state) {
+        (Sort::Attribute(Ok(None)), State::InMapping(_)) => Ok(()),
+        (Sort::Attribute(Ok(Some(setting))), State::InMapping(tally)) => {
+            tally.last.set(setting);
             Ok(())
         }
-        (State::InMapping(tally), Sort::Mapping(head)) => match (tally.opened(cap), head) {
+        (Sort::Attribute(Err(f)), State::InMapping(_)) => Err(f),
+        (Sort::Mapping(head), State::InMapping(tally)) => match (tally.opened(cap), head) {
             (Ok(next), Ok(())) => {
                 *tally = next;
                 Ok(())
             }
             (Err(f), _) | (Ok(_), Err(f)) => Err(f),
         },
-        (State::InMapping(tally), Sort::Attribute(Ok(Some(setting)))) => {
-            tally.last.set(setting);
+        (Sort::Mapping(Ok(())), State::NoMapping) => {
+            *state = State::InMapping(Tally {
+                mappings: 1,
+                ..Tally::default()
+            });
             Ok(())
         }
-        (State::InMapping(_), Sort::Attribute(Ok(None))) => Ok(()),
-        (State::InMapping(_), Sort::Attribute(Err(f))) => Err(f),
+        (Sort::Mapping(Err(f)), State::NoMapping) => Err(f),
+        (Sort::Attribute(_), State::NoMapping) => Err(Fault::new(Reason::Orphan)),
+        (_, State::Refused(f)) => return Err(*f),
     };
     if let Err(f) = taken {
         *state = State::Refused(f);

@@ -1,5 +1,5 @@
 -- The table agrees with the library's notion of UTF-8.
-use Rattle.std.proofs.Common.{◌≡◌, ℕ, zero, suc, ◌+◌, ◌-◌, ◌*◌, ◌/◌, ◌%◌, ◌<◌, ◌≤◌, Bool, true, ◌&&◌, leb, ◌⊎◌, List, [], ◌∷◌, ◌++◌, length, Some, None, IsUtf8, Option, sym, refl, ap, ◌∙◌, subst, inl, inr, arith, le-ltb, lt-ltb, le-leb, leb-true}
+use Rattle.std.proofs.Common.{◌≡◌, ℕ, zero, suc, ◌+◌, ◌-◌, ◌*◌, ◌/◌, MatchOption, ◌%◌, ◌<◌, ◌≤◌, Bool, true, false, ◌&&◌, leb, ◌⊎◌, List, [], ◌∷◌, ◌++◌, length, Some, None, IsUtf8, Option, sym, refl, ap, ◌∙◌, subst, inl, inr, arith, le-ltb, lt-ltb, le-leb, leb-true}
 use lib.Utf8.{encode, encodes, scalar, scalars, scalar_cases}
 use Rattle.std.proofs.lemmas.Bool.Decides.{nat_tests}
 use Rattle.std.proofs.lemmas.Bool.{cases_lt, and_parts}
@@ -9,41 +9,41 @@ use Rattle.sources.specs.Utf8.{Range, trail, table, inside, row_for, well_formed
 pub in_yes : (r : Range) (b : ℕ) → r.0 ≤ b → b ≤ r.1 → inside r b ≡ true
 in_yes r b h k = ap (λ (t : Bool). t && leb b r.1) (le-leb r.0 b h) ∙ le-leb b r.1 k
 
-row_1 : (b : ℕ) → b ≤ 0x7F → row_for table b ≡ Some []
+pub row_1 : (b : ℕ) → b ≤ 0x7F → row_for table b ≡ Some []
 row_1 b h = grind (arith, nat_tests)
 
-row_2 : (b : ℕ) → 0xC2 ≤ b → b ≤ 0xDF → row_for table b ≡ Some (trail ∷ [])
+pub row_2 : (b : ℕ) → 0xC2 ≤ b → b ≤ 0xDF → row_for table b ≡ Some (trail ∷ [])
 row_2 b h k = grind (arith, nat_tests)
 
-row_3 : (b : ℕ) → b ≡ 0xE0 → row_for table b ≡ Some ((0xA0, 0xBF) ∷ trail ∷ [])
+pub row_3 : (b : ℕ) → b ≡ 0xE0 → row_for table b ≡ Some ((0xA0, 0xBF) ∷ trail ∷ [])
 row_3 b h = rw h
 
-row_4 : (b : ℕ) → 0xE1 ≤ b → b ≤ 0xEC → row_for table b ≡ Some (trail ∷ trail ∷ [])
+pub row_4 : (b : ℕ) → 0xE1 ≤ b → b ≤ 0xEC → row_for table b ≡ Some (trail ∷ trail ∷ [])
 row_4 b h k = grind (arith, nat_tests)
 
-row_5 : (b : ℕ) → b ≡ 0xED → row_for table b ≡ Some ((0x80, 0x9F) ∷ trail ∷ [])
+pub row_5 : (b : ℕ) → b ≡ 0xED → row_for table b ≡ Some ((0x80, 0x9F) ∷ trail ∷ [])
 row_5 b h = rw h
 
-row_6 : (b : ℕ) → 0xEE ≤ b → b ≤ 0xEF → row_for table b ≡ Some (trail ∷ trail ∷ [])
+pub row_6 : (b : ℕ) → 0xEE ≤ b → b ≤ 0xEF → row_for table b ≡ Some (trail ∷ trail ∷ [])
 row_6 b h k = grind (arith, nat_tests)
 
-row_7 : (b : ℕ) → b ≡ 0xF0 → row_for table b ≡ Some ((0x90, 0xBF) ∷ trail ∷ trail ∷ [])
+pub row_7 : (b : ℕ) → b ≡ 0xF0 → row_for table b ≡ Some ((0x90, 0xBF) ∷ trail ∷ trail ∷ [])
 row_7 b h = rw h
 
-row_8 : (b : ℕ) → 0xF1 ≤ b → b ≤ 0xF3 → row_for table b ≡ Some (trail ∷ trail ∷ trail ∷ [])
+pub row_8 : (b : ℕ) → 0xF1 ≤ b → b ≤ 0xF3 → row_for table b ≡ Some (trail ∷ trail ∷ trail ∷ [])
 row_8 b h k = grind (arith, nat_tests)
 
-row_9 : (b : ℕ) → b ≡ 0xF4 → row_for table b ≡ Some ((0x80, 0x8F) ∷ trail ∷ trail ∷ [])
+pub row_9 : (b : ℕ) → b ≡ 0xF4 → row_for table b ≡ Some ((0x80, 0x8F) ∷ trail ∷ trail ∷ [])
 row_9 b h = rw h
 
-no_row_low : (b : ℕ) → 0x7F < b → b < 0xC2 → row_for table b ≡ None
+pub no_row_low : (b : ℕ) → 0x7F < b → b < 0xC2 → row_for table b ≡ None
 no_row_low b h k = grind (arith, nat_tests)
 
-no_row_high : (b : ℕ) → 0xF4 < b → row_for table b ≡ None
+pub no_row_high : (b : ℕ) → 0xF4 < b → row_for table b ≡ None
 no_row_high b h = grind (arith, nat_tests)
 
 -- sequences of one byte to four before others
-seq_1 : (b : ℕ) (t : List ℕ) → row_for table b ≡ Some [] → is_utf8 (b ∷ t) ≡ is_utf8 t
+pub seq_1 : (b : ℕ) (t : List ℕ) → row_for table b ≡ Some [] → is_utf8 (b ∷ t) ≡ is_utf8 t
 unfolding well_formed
 seq_1 b t e = ap (λ (o : Option (List Range)). well_formed o t) e
 
@@ -246,3 +246,35 @@ text_by (suc n) (b ∷ bs) h e = text_step b bs (λ t l f. text_by n t (omega ar
 
 pub formed-text : (bs : List ℕ) → is_utf8 bs ≡ true → IsUtf8 bs
 formed-text bs e = text_by (length bs) bs (omega arith) e
+
+-- a byte that is asked for by its range, and one that is not there or lies outside
+pub wanted_inside : (r : Range) (rs : List Range) (bs : List ℕ) (b : ℕ) (t : List ℕ) → bs ≡ b ∷ t → r.0 ≤ b → b ≤ r.1 → well_formed (Some (r ∷ rs)) bs ≡ well_formed (Some rs) t
+unfolding well_formed
+wanted_inside r rs bs b t e h k = ap (well_formed (Some (r ∷ rs))) e ∙ ap (λ (x : Bool). x && well_formed (Some rs) t) (in_yes r b h k)
+
+pub wanted_outside : (r : Range) (rs : List Range) (bs : List ℕ) (b : ℕ) (t : List ℕ) → bs ≡ b ∷ t → (b < r.0) ⊎ (r.1 < b) → well_formed (Some (r ∷ rs)) bs ≡ false
+unfolding well_formed
+wanted_outside r rs bs b t e o = ap (well_formed (Some (r ∷ rs))) e ∙ ap (λ (x : Bool). x && well_formed (Some rs) t) (out o)
+  where
+    out : (b < r.0) ⊎ (r.1 < b) → inside r b ≡ false
+    out (inl h) = grind (arith, nat_tests)
+    out (inr h) = grind (arith, nat_tests)
+
+pub wanted_none : (r : Range) (rs : List Range) (bs : List ℕ) → length bs ≡ 0 → well_formed (Some (r ∷ rs)) bs ≡ false
+unfolding well_formed
+wanted_none r rs [] h = refl
+wanted_none r rs (b ∷ bs) h = absurd (omega arith)
+
+-- what a row asks for is what its first byte leaves
+pub by_row : {A : Type 0} (b : ℕ) (bs : List ℕ) (o : Option (List Range)) (r : Option A) (f : A → Bool) → row_for table b ≡ o → MatchOption r (well_formed o bs ≡ false) (λ a. well_formed o bs ≡ f a) → MatchOption r (is_utf8 (b ∷ bs) ≡ false) (λ a. is_utf8 (b ∷ bs) ≡ f a)
+unfolding well_formed
+by_row b bs o r f e m = subst (λ (x : Option (List Range)). MatchOption r (well_formed x bs ≡ false) (λ a. well_formed x bs ≡ f a)) (sym e) m
+
+pub by_none : (b : ℕ) (bs : List ℕ) → row_for table b ≡ None → is_utf8 (b ∷ bs) ≡ false
+unfolding well_formed
+by_none b bs e = ap (λ (o : Option (List Range)). well_formed o bs) e
+
+pub nothing_left : (bs : List ℕ) → length bs ≡ 0 → is_utf8 bs ≡ true
+unfolding well_formed
+nothing_left [] h = refl
+nothing_left (b ∷ bs) h = absurd (omega arith)

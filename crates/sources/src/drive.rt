@@ -7,6 +7,7 @@ ghost use Rattle.sources.specs.Editions.{NewerReadsSame};
 ghost use Rattle.sources.specs.Folded.{FoldsLines};
 ghost use Rattle.sources.specs.Lines.{reading, course, broke as broke_of};
 
+use crate::chars::is_utf8;
 use crate::fault::{Refusal, at_line};
 use crate::kind::{Break, Close, Finish, Kind};
 use crate::reason::Reason;
@@ -107,14 +108,22 @@ fn known_ascii(text: &[u8]) -> bool
     is_ascii(seen)
 }
 
-// The first n bytes as text, where they are UTF-8. Most lines are ASCII, which is told 16 bytes at a time. It stands in the loop over lines, since short ones cost little more than a call.
+// Whether a text is known to be UTF-8: as ASCII, which is told soonest, or, where it has fewer than 16 bytes, a character at a time.
+#[inline(always)]
+fn known_utf8(text: &[u8]) -> bool
+    ensures { IsTrue result → IsUtf8 text.now }
+{
+    known_ascii(text) || (text.len() < 16 && is_utf8(text))
+}
+
+// The first n bytes as text, where they are UTF-8. Most lines are ASCII, which is told 16 bytes at a time. It stands in the loop over lines, since short ones cost little more than a call. What is not known here, the library tests.
 #[inline(always)]
 fn line_text(buf: &[u8], n: usize) -> Option<&str>
     requires { n ≤ length buf.now }
     ensures { MatchOption result (¬ (IsUtf8 (take n buf.now))) (λ s. (s.now ≡ take n buf.now) × IsUtf8 (take n buf.now)) }
 {
     let line = &buf[..n];
-    if known_ascii(line) {
+    if known_utf8(line) {
         return Some(unsafe { from_utf8_unchecked(line) });
     }
     from_utf8(line).ok()

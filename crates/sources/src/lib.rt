@@ -1,6 +1,7 @@
 //! Where bytes come from, how they become lines, and the numbers and pieces of text that readers of lines share.
 #![tactic(auto)]
 
+mod chars;
 pub mod drive;
 pub mod fault;
 mod find;
